@@ -1,0 +1,26 @@
+//! What every crate stands on: numbers of threads, locks and variables, the limits, and the traits through which
+//! the product meets the outside.
+#![tactic(auto)]
+
+mod gate;
+mod ids;
+mod limits;
+mod outside;
+mod sinks;
+mod sources;
+mod streams;
+#[cfg(test)]
+mod tests;
+mod writing;
+
+pub use gate::{Gate, OpenGate};
+pub use ids::{LockId, ThreadId, VarId};
+pub use limits::{
+    MAX_DEPTH, MAX_EVENTS, MAX_INPUT, MAX_INSTRUCTIONS, MAX_LINE, MAX_LOCKS, MAX_NAME,
+    MAX_PATTERNS, MAX_SIZE, MAX_THREADS, MAX_VARS, MAX_WORKERS, MIN_SIZE,
+};
+pub use outside::{Failed, OutOfMemory, Sink, Source, WriteFault};
+pub use sinks::{MemSink, SureSink};
+pub use sources::{MemSource, SureSource};
+pub use streams::{StdSink, StdSource};
+pub use writing::write_all;
