@@ -1,0 +1,13 @@
+pub mod Places
+pub mod ClosedSets
+pub mod Enabling
+pub mod Tables
+pub mod Growing
+pub mod GrowingTables
+pub mod Refusals
+pub mod Deciding
+pub mod LeastClosed
+pub mod Judges
+pub mod Least
+pub mod Counting
+pub mod NameLemmas

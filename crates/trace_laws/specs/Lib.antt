@@ -1,0 +1,10 @@
+pub mod Event
+pub mod Trace
+pub mod Reordering
+pub mod Patterns
+pub mod Findings
+pub mod Closed
+pub mod Faults
+pub mod Building
+pub mod Traces
+pub mod Names

@@ -1,0 +1,99 @@
+//! Each public call on its happy path.
+
+use crate::{Builder, Deadlock, Event, Finding, Keep, LawFault, Names, Op, Race, Trace};
+use sp_base::{LockId, ThreadId, VarId};
+use std::alloc::Global;
+use std::test::Fail;
+
+// What the builder answers to an operation of a thread.
+fn answer(builder: &mut Builder, thread: u16, op: Op) -> Option<Result<(), LawFault>> {
+    let thread = ThreadId::new(thread)?;
+    Some(builder.push(Event { thread, op, loc: 0 }))
+}
+
+#[test]
+fn a_builder_takes_lawful_events_alone(rt: HostRuntime) -> Result<(), Fail> {
+    let mut builder = Builder::new(rt.alloc(), 2)?;
+    let lock = LockId::new(1).ok_or("a lock")?;
+    assert_eq!(rt; answer(&mut builder, 1, Op::Acquire(lock)), Some(Ok(())));
+    assert_eq!(rt;
+        answer(&mut builder, 0, Op::Release(lock)),
+        Some(Err(LawFault::NotHeld))
+    );
+    assert_eq!(rt; answer(&mut builder, 1, Op::Release(lock)), Some(Ok(())));
+    assert_eq!(rt;
+        answer(&mut builder, 1, Op::Acquire(lock)),
+        Some(Err(LawFault::Full))
+    );
+    Ok(())
+}
+
+// The trace in which a thread writes a variable.
+fn one_write(alloc: Global, thread: ThreadId, var: VarId) -> Option<Trace> {
+    let threads = thread.value() + 1;
+    let mut builder = Builder::new(alloc, 1).ok()?;
+    let op = Op::Write(var);
+    builder.push(Event { thread, op, loc: 7 }).ok()?;
+    Some(builder.finish(threads))
+}
+
+#[test]
+fn a_trace_has_its_events(rt: HostRuntime) -> Result<(), Fail> {
+    let thread = ThreadId::new(3).ok_or("a thread")?;
+    let var = VarId::new(0).ok_or("a variable")?;
+    let trace = one_write(rt.alloc(), thread, var).ok_or("a trace")?;
+    assert_eq!(rt; trace.threads(), 4);
+    assert!(rt; !trace.is_empty());
+    assert_eq!(rt; trace.len(), 1);
+    assert_eq!(rt; trace.event(0).loc, 7);
+    Ok(())
+}
+
+#[test]
+fn findings_keep_what_they_are_given(rt: HostRuntime) -> Result<(), Fail> {
+    let deadlock = Deadlock::new(&[4, 9]);
+    assert_eq!(rt; deadlock.picks(), [4, 9].as_slice());
+    let keep = Keep::new(rt.alloc(), &[1, 0, 2])?;
+    assert_eq!(rt; keep.counts(), [1, 0, 2].as_slice());
+    let race = Race {
+        later: 3,
+        earlier: 1,
+    };
+    let found = Finding::Race(race, keep);
+    assert!(rt; matches!(&found, Finding::Race(_, _)));
+    Ok(())
+}
+
+#[test]
+fn a_name_keeps_its_number(rt: HostRuntime) -> Result<(), Fail> {
+    let mut names = Names::new(rt.alloc())?;
+    let first = names.thread(b"T0")?;
+    let second = names.thread(b"T1")?;
+    assert_eq!(rt; (first.value(), second.value()), (0, 1));
+    assert_eq!(rt; names.thread(b"T0")?, first);
+    assert_eq!(rt; names.threads(), 2);
+    Ok(())
+}
+
+#[test]
+fn each_kind_has_numbers_of_its_own(rt: HostRuntime) -> Result<(), Fail> {
+    let mut names = Names::new(rt.alloc())?;
+    let thread = names.thread(b"n")?;
+    let lock = names.lock(b"n")?;
+    let var = names.var(b"n")?;
+    assert_eq!(rt; (thread.value(), lock.value(), var.value()), (0, 0, 0));
+    assert_eq!(rt; (names.locks(), names.vars()), (1, 1));
+    Ok(())
+}
+
+#[test]
+fn a_number_has_its_name(rt: HostRuntime) -> Result<(), Fail> {
+    let mut names = Names::new(rt.alloc())?;
+    let thread = names.thread(b"T0")?;
+    assert_eq!(rt; names.thread_name(thread), b"T0".as_slice());
+    let lock = names.lock(b"L")?;
+    assert_eq!(rt; names.lock_name(lock), b"L".as_slice());
+    let var = names.var(b"x")?;
+    assert_eq!(rt; names.var_name(var), b"x".as_slice());
+    Ok(())
+}
