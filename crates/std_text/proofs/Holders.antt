@@ -1,0 +1,62 @@
+-- In a lawful trace the computed holders hold the locks.
+use Rattle.std.proofs.Common.{◌≡◌, ℕ, ◌<◌, List, [], ◌∷◌, ◌++◌, length, Some, sym, ap, subst, ◌∙◌, arith, append-nil, append_assoc, length-append}
+use Rattle.std.specs.Prelude.{slice_get}
+use Rattle.std.specs.Option.{option_map}
+use Rattle.trace_laws.specs.Event.{Event}
+use Rattle.trace_laws.specs.declared.event.Op.{Op}
+use Rattle.trace_laws.specs.declared.event.Op.TheVariants.{Read, Write, Acquire, Release, Fork, Join}
+use Rattle.trace_laws.specs.Trace.{thread_at, op_at, Holds, LockLaw, Lawful}
+use Rattle.trace_laws.proofs.Places.{slice_get-append_left, slice_get-append_seam}
+use Rattle.std_text.specs.Law.{Tells}
+use Rattle.std_text.proofs.LawLemmas.{tells_none, tells_push}
+
+-- a trace, and the events behind it
+module _ (front more : List Event) where
+  -- a place of the front has the same operation
+  op_same : (i : ℕ) → i < length front → op_at (front ++ more) i ≡ op_at front i
+  op_same i less = ap (option_map (λ (x : Event). x.op)) (slice_get-append_left front more i less)
+
+  -- and the same thread
+  thread_same : (i : ℕ) → i < length front → thread_at (front ++ more) i ≡ thread_at front i
+  thread_same i less = ap (option_map (λ (x : Event). x.thread)) (slice_get-append_left front more i less)
+
+  -- what is held in the whole at the end of the front is held in the front
+  holds_in_front : (t l : ℕ) → Holds (front ++ more) ◌<◌ (length front) t l → Holds front ◌<◌ (length front) t l
+  holds_in_front t l h = record {
+    since = h.since;
+    acquired = record { thread = sym (thread_same h.since h.before) ∙ h.acquired.thread; op = sym (op_same h.since h.before) ∙ h.acquired.op };
+    before = h.before;
+    kept = λ r releases after until. h.kept r (record { thread = thread_same r until ∙ releases.thread; op = op_same r until ∙ releases.op }) after until;
+  }
+
+  -- and the other way round
+  holds_in_whole : (t l : ℕ) → Holds front ◌<◌ (length front) t l → Holds (front ++ more) ◌<◌ (length front) t l
+  holds_in_whole t l h = record {
+    since = h.since;
+    acquired = record { thread = thread_same h.since h.before ∙ h.acquired.thread; op = op_same h.since h.before ∙ h.acquired.op };
+    before = h.before;
+    kept = λ r releases after until. h.kept r (record { thread = sym (thread_same r until) ∙ releases.thread; op = sym (op_same r until) ∙ releases.op }) after until;
+  }
+
+  -- so the law of the event behind the front is the law after the front
+  law_in_front : (t : ℕ) (o : Op) → LockLaw (front ++ more) ◌<◌ (length front) t o → LockLaw front ◌<◌ (length front) t o
+  law_in_front t (Acquire l) free = λ u h. free u (holds_in_whole u l h)
+  law_in_front t (Release l) own = holds_in_front t l own
+  law_in_front t (Read x) law = tt
+  law_in_front t (Write x) law = tt
+  law_in_front t (Fork u) law = tt
+  law_in_front t (Join u) law = tt
+
+-- event by event
+tells_from : (front back : List Event) → Tells front → Lawful (front ++ back) → Tells (front ++ back)
+tells_from front [] tells lawful = subst Tells (sym (append-nil front)) tells
+tells_from front (e ∷ back) tells lawful =
+    let whole : (front ++ e ∷ []) ++ back ≡ front ++ e ∷ back = append_assoc front (e ∷ []) back in
+    let last : slice_get (front ++ e ∷ []) (length front) ≡ Some e = slice_get-append_seam front e in
+    let at : slice_get (front ++ e ∷ back) (length front) ≡ Some e = ap (λ (xs : List Event). slice_get xs (length front)) (sym whole) ∙ slice_get-append_left (front ++ e ∷ []) back (length front) (omega (arith, length-append front (e ∷ []))) ∙ last in
+    let law = law_in_front front (e ∷ back) e.thread e.op (lawful (length front) e at).locks in
+    subst Tells whole (tells_from (front ++ e ∷ []) back (tells_push front e law tells) (subst Lawful (sym whole) lawful))
+
+-- in a lawful trace the holders are computed rightly
+pub holders_tell : (trace : List Event) → Lawful trace → Tells trace
+holders_tell trace lawful = tells_from [] trace tells_none lawful

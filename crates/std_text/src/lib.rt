@@ -1,0 +1,17 @@
+//! The text of traces. A [`Reader`] takes a text in pieces: `framing` cuts it into lines, and `line` says what one line
+//! means after those before it.
+#![tactic(auto)]
+
+mod fault;
+mod fields;
+mod framing;
+mod law;
+mod line;
+mod reader;
+#[cfg(test)]
+mod tests;
+
+pub use fault::{ReadFault, StdFault, StdKind};
+pub use framing::pieces_are_the_text;
+pub use law::holders_hold_the_locks;
+pub use reader::Reader;

@@ -1,0 +1,171 @@
+// What one line means after the lines before it.
+ghost use Rattle.std.specs.Prelude.{◌≡◌, ◌<◌, ◌+◌, ◌^◌, ◌≤◌, IfOk, OnOk, OnErr, IsErrOf, true, false, Some, [], length};
+ghost use Rattle.std_text.specs.Fields.{parts_of};
+ghost use Rattle.std_text.specs.Law.{kind_of};
+ghost use Rattle.std_text.specs.Meaning.{with_operand, fits, op_on, read_event, read_parts};
+ghost use Rattle.std_text.specs.Plain.{IsPlain};
+ghost use Rattle.std_text.specs.Told.{Steps};
+
+use crate::fault::{ReadFault, StdFault, StdKind};
+use crate::fields::{Action, Fields, split_line};
+use sp_base::{MAX_EVENTS, OutOfMemory, ThreadId};
+use std::alloc::Global;
+use std::marker::Model;
+use trace_laws::{Builder, Event, LawFault, NameFault, Names, Op, Trace};
+
+/// The events and names of the lines so far, and the number of the next line.
+#[derive(Drop)]
+pub struct LineReader {
+    builder: Builder,
+    names: Names,
+    line: u32,
+}
+
+impl Model for LineReader {
+    ghost use Rattle.std_text.specs.Meaning.{Reading, IsSound};
+
+    ghost Value = { Reading };
+
+    ghost view = { λ r. record { events = r.builder.events; names = r.names; line = r.line } };
+
+    ghost invariant = { λ r. IsSound r.builder.capacity r.builder.events r.names };
+}
+
+// The operation on an operand, whose name gets a number.
+fn operation_on(names: &mut Names, action: Action, operand: &[u8]) -> Result<Op, NameFault>
+    ensures ok { OnOk result (names.new ≡ with_operand names.old action operand.now) }
+    ensures operation { IfOk result (λ op. op ≡ op_on names.old action operand.now) }
+    ensures plain { IfOk result IsPlain }
+    ensures within { OnOk result (fits names.new action ≡ true) }
+    ensures err { OnErr result (names.new ≡ names.old) }
+    ensures full { IsErrOf result NameFault.Full → fits (with_operand names.old action operand.now) action ≡ false }
+{
+    match action {
+        Action::Read => Ok(Op::Read(names.var(operand)?)),
+        Action::Write => Ok(Op::Write(names.var(operand)?)),
+        Action::Acquire => Ok(Op::Acquire(names.lock(operand)?)),
+        Action::Release => Ok(Op::Release(names.lock(operand)?)),
+    }
+}
+
+// The kind of a law that an event of the thread breaks.
+fn law_kind(thread: ThreadId, fault: &LawFault) -> StdKind
+    ensures { result ≡ kind_of thread fault.now }
+{
+    match fault {
+        LawFault::Reentrant => StdKind::LockHeld(thread),
+        LawFault::LockHeld(holder) => StdKind::LockHeld(*holder),
+        LawFault::NotHeld => StdKind::NotHeld,
+        _ => StdKind::UnknownOperation,
+    }
+}
+
+impl LineReader {
+    ghost use Rattle.std_text.specs.Framing.{begun};
+
+    /// No line yet. It takes the room of all events.
+    pub fn new(alloc: Global) -> Result<LineReader, OutOfMemory>
+        ensures { IfOk result (λ r. r ≡ begun) }
+    {
+        Ok(LineReader {
+            builder: Builder::new(alloc, MAX_EVENTS)?,
+            names: Names::new(alloc)?,
+            line: 1,
+        })
+    }
+
+    /// The refusal of the next line as none of those that are taken.
+    pub fn refusal(&self) -> ReadFault
+        ensures { result ≡ ReadFault.Text (record { line = self.now.line; kind = StdKind.UnknownOperation }) }
+    {
+        ReadFault::Text(StdFault {
+            line: self.line,
+            kind: StdKind::UnknownOperation,
+        })
+    }
+
+    // The refusal of the next line for the law that it breaks.
+    fn law_fault(&self, thread: ThreadId, fault: &LawFault) -> ReadFault
+        ensures { result ≡ ReadFault.Text (record { line = self.now.line; kind = kind_of thread fault.now }) }
+    {
+        ReadFault::Text(StdFault {
+            line: self.line,
+            kind: law_kind(thread, fault),
+        })
+    }
+
+    // Why a name of the line has no number.
+    fn name_fault(&self, fault: NameFault) -> ReadFault
+        ensures full { fault ≡ NameFault.Full → result ≡ ReadFault.Text (record { line = self.now.line; kind = StdKind.UnknownOperation }) }
+        ensures memory { fault ≡ NameFault.OutOfMemory → result ≡ ReadFault.OutOfMemory }
+    {
+        match fault {
+            NameFault::Full => self.refusal(),
+            NameFault::OutOfMemory => ReadFault::OutOfMemory,
+        }
+    }
+
+    // Appends the event of a line's parts. After a fault the names may have grown by those of the line.
+    fn append(&mut self, parts: &Fields<'_>) -> Result<(), ReadFault>
+        requires { self.old.line + 1 < 2 ^ 32 }
+        ensures line { self.new.line ≤ self.old.line + 1 }
+        ensures read { Steps result self.new.names self.new (read_parts self.old (Some (record {
+          thread = parts.now.thread.now;
+          action = parts.now.action;
+          operand = parts.now.operand.now;
+          location = parts.now.location;
+        }))) }
+    {
+        let thread = match self.names.thread(parts.thread) {
+            Ok(thread) => thread,
+            Err(fault) => return Err(self.name_fault(fault)),
+        };
+        let op = match operation_on(&mut self.names, parts.action, parts.operand) {
+            Ok(op) => op,
+            Err(fault) => return Err(self.name_fault(fault)),
+        };
+        let loc = parts.location;
+        if let Err(fault) = self.builder.push(Event { thread, op, loc }) {
+            return Err(self.law_fault(thread, &fault));
+        }
+        self.line += 1;
+        Ok(())
+    }
+
+    /// Takes a line that is not empty for what it means.
+    pub fn event(&mut self, content: &[u8]) -> Result<(), ReadFault>
+        requires { self.old.line + 1 < 2 ^ 32 }
+        ensures read { Steps result self.new.names self.new (read_event self.old content.now) }
+        ensures line { self.new.line ≤ self.old.line + 1 }
+    {
+        match split_line(content) {
+            Some(parts) => self.append(&parts),
+            None => Err(self.refusal()),
+        }
+    }
+
+    /// Counts an empty line.
+    pub fn skip(&mut self)
+        requires { self.old.line + 1 < 2 ^ 32 }
+        ensures { self.new ≡ record self.old { line = self.old.line + 1 } }
+    {
+        self.line += 1;
+    }
+
+    /// The names so far.
+    pub fn names(&self) -> &Names
+        ensures { result.now ≡ self.now.names }
+    {
+        &self.names
+    }
+
+    /// The trace of the events, whose number of threads is that of the names, and the names.
+    pub fn finish(self) -> (Trace, Names)
+        ensures trace { result.0 ≡ record { events = self.events; threads = length self.names.threads } }
+        ensures names { result.1 ≡ self.names }
+    {
+        let LineReader { builder, names, .. } = self;
+        let threads = names.threads();
+        (builder.finish(threads), names)
+    }
+}
