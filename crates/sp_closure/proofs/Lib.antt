@@ -1,0 +1,13 @@
+pub mod About
+pub mod Linking
+pub mod Writing
+pub mod Sections
+pub mod Flags
+pub mod Admissions
+pub mod Sides
+pub mod Counts
+pub mod Passing
+pub mod Latests
+pub mod TakingUp
+pub mod Resting
+pub mod Blank

@@ -1,0 +1,8 @@
+pub mod Members
+pub mod Subjects
+pub mod Tables
+pub mod Indexes
+pub mod Cuts
+pub mod Needs
+pub mod Progress
+pub mod Cursors
