@@ -1,0 +1,6 @@
+pub mod Came
+pub mod Ran
+pub mod Pairs
+pub mod Linking
+pub mod Raised
+pub mod Scanning

@@ -1,0 +1,44 @@
+-- Faults of the program, and their lines.
+use Rattle.std.specs.Prelude.{◌≡◌, ℕ, List, ◌++◌, codes, Result, Err}
+use Rattle.std.specs.Fmt.{decimal}
+use Rattle.trace_laws.specs.Names.{NameLists}
+use Rattle.std_text.specs.Refusal.{LineFault, Refusal, refusal_of}
+use Rattle.std_text.specs.declared.fault.ReadFault.{ReadFault}
+use Rattle.std_text.specs.declared.fault.ReadFault.TheVariants as read
+use Rattle.std_text.specs.declared.fault.StdKind.{StdKind}
+use Rattle.std_text.specs.declared.fault.StdKind.TheVariants.{UnknownOperation, LockHeld, NotHeld}
+use Rattle.syncp.specs.declared.outcome.Fault.{Fault}
+use Rattle.syncp.specs.declared.outcome.Fault.TheVariants.{Text, Read, Write, OutOfMemory}
+
+-- a refusal of the text as the program's fault
+abbrev pub text_fault : Refusal → Fault
+text_fault r = Text (record { line = r.line; kind = r.kind }) r.holder
+
+-- the refusal that a fault and a holder's name tell
+abbrev pub refusal_with : LineFault → List ℕ → Refusal
+refusal_with f holder = record { line = f.line; kind = f.kind; holder = holder }
+
+-- the program's fault tells that of a reader, with the name that its holder has, unless memory ran out
+abbrev pub TellsFault : NameLists → ReadFault → Fault → Type 0
+TellsFault names (read.Text e) (Text f holder) = refusal_with f holder ≡ refusal_of names e
+TellsFault names e OutOfMemory = Unit {0}
+TellsFault names e f = ⊥
+
+-- the text is refused as the program's fault tells, unless memory ran out
+abbrev pub TellsRefusal : {A : Type 0} → Result A Refusal → Fault → Type 0
+TellsRefusal read (Text f holder) = read ≡ Err (refusal_with f holder)
+TellsRefusal read OutOfMemory = Unit {0}
+TellsRefusal read f = ⊥
+
+-- the number and the name of a kind, with a space where the holder's name follows
+abbrev pub kind_text : StdKind → List ℕ
+kind_text UnknownOperation = codes "4 UnknownOperation"
+kind_text (LockHeld t) = codes "11 LockHeld "
+kind_text NotHeld = codes "13 NotHeld"
+
+-- the line of a fault
+abbrev pub fault_line : Fault → List ℕ
+fault_line (Text f holder) = codes "line " ++ decimal f.line ++ codes " fault " ++ kind_text f.kind ++ holder ++ codes "\n"
+fault_line Read = codes "read fault\n"
+fault_line Write = codes "write fault\n"
+fault_line OutOfMemory = codes "no memory\n"

@@ -1,0 +1,48 @@
+-- What an outcome says of what was read and written. Ended says that the source is at its end.
+use Rattle.std.specs.Prelude.{◌≡◌, ◌⊎◌, ℕ, List, [], Result, Ok, Err}
+use Rattle.trace_laws.specs.Traces.{History}
+use Rattle.trace_laws.specs.Names.{NameLists}
+use Rattle.std_text.specs.Framing.{Progress}
+use Rattle.std_text.specs.Refusal.{Refusal}
+use Rattle.std_text.specs.Told.{Told}
+use Rattle.syncp.specs.declared.outcome.Fault.{Fault}
+use Rattle.syncp.specs.declared.outcome.Fault.TheVariants.{Text, Read, Write, OutOfMemory}
+use Rattle.syncp.specs.declared.outcome.Outcome.{Outcome}
+use Rattle.syncp.specs.declared.outcome.Outcome.TheVariants.{Done, Refused}
+use Rattle.syncp.specs.Faults.{refusal_with, TellsRefusal}
+use Rattle.syncp.specs.Output.{history_of, IsStd, IsKnownFault, HasNoFault, IsOutput, IsFrontOfOutput}
+
+-- a fault while the input was read
+abbrev pub FailsToRead : Type 0 → Fault → List ℕ → Type 0
+FailsToRead Ended (Text f holder) input = IsKnownFault Ended input (refusal_with f holder)
+FailsToRead Ended Read input = HasNoFault input
+FailsToRead Ended Write input = ⊥
+FailsToRead Ended OutOfMemory input = Unit {0}
+
+-- where the text gives read, a reader went on to it, or the fault tells why the text is refused there
+abbrev pub GoesOn : Result Progress Refusal → Told → Result (Unit {0}) Fault → Type 0
+GoesOn read new (Ok u) = (p : Progress) × (read ≡ Ok p) × (new.read ≡ Ok p)
+GoesOn read new (Err fault) = TellsRefusal read fault
+
+-- where the text gives read at its end, the answer is its trace and names, or the fault tells why the text is refused
+abbrev pub Ends : Result Progress Refusal → Result (History × NameLists) Fault → Type 0
+Ends read (Ok answer) = (p : Progress) × (read ≡ Ok p) × (answer.0 ≡ history_of p) × (answer.1 ≡ p.reading.names)
+Ends read (Err fault) = TellsRefusal read fault
+
+-- a reading of all the input, or a fault
+abbrev pub IsReadFrom : Type 0 → Result (History × NameLists) Fault → List ℕ → Type 0
+IsReadFrom Ended (Ok read) input = (p : Progress) × IsStd input p × (read.0 ≡ history_of p) × (read.1 ≡ p.reading.names)
+IsReadFrom Ended (Err fault) input = FailsToRead Ended fault input
+
+-- what was read and written explains the outcome
+abbrev pub Explains : Type 0 → Outcome → List ℕ → List ℕ → Type 0
+Explains Ended (Done found) input text = IsOutput input text found
+Explains Ended (Refused (Text f holder)) input text = IsKnownFault Ended input (refusal_with f holder) × (text ≡ [])
+Explains Ended (Refused Read) input text = HasNoFault input × (text ≡ [])
+Explains Ended (Refused Write) input text = IsFrontOfOutput input text × Ended
+Explains Ended (Refused OutOfMemory) input text = (text ≡ []) ⊎ (IsFrontOfOutput input text × Ended)
+
+-- the whole output was written
+abbrev pub IsDone : Outcome → Type 0
+IsDone (Done found) = Unit {0}
+IsDone (Refused fault) = ⊥

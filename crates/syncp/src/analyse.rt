@@ -1,0 +1,60 @@
+// The mode `predict`.
+ghost use Rattle.std.specs.Prelude.{◌≡◌, ◌≤◌, ◌⊎◌, ℕ, List, Some};
+ghost use Rattle.std.specs.Io.KnownBytes.{IsAtEnd};
+ghost use Rattle.sp_base.specs.Causes.{Rose};
+ghost use Rattle.sp_base.specs.Moves.{Took, Gained};
+ghost use Rattle.std_text.specs.Framing.{Progress};
+ghost use Rattle.syncp.specs.Outcome.{Explains, IsDone};
+ghost use Rattle.syncp.specs.Output.{IsStd, IsWithinLimit};
+
+use crate::outcome::{Fault, Outcome};
+use crate::reading::read_trace;
+use crate::report::report;
+use sp_base::{Gate, MAX_SIZE, MAX_WORKERS, MIN_SIZE, Sink, Source, WriteFault, write_all};
+use std::alloc::Global;
+use std::thread::Threads;
+
+/// Reads a trace and writes its report. The size of deadlock patterns, the workers and the gate have no part in the
+/// answer yet. A refusal of the text comes before anything is written. `Read` and `Write` come only where the count of
+/// faults of the source or of the sink rose; after `Write`, and after want of memory, a front of the report is written.
+pub fn analyse<R: Threads + Sync, S: Source, K: Sink, G: Gate>(
+    _rt: &R,
+    alloc: Global,
+    _size: u8,
+    _workers: u8,
+    source: &mut S,
+    out: &mut K,
+    _gate: &G,
+) -> Outcome
+    requires least_size { MIN_SIZE ≤ _size }
+    requires greatest_size { _size ≤ MAX_SIZE }
+    requires least_workers { 1 ≤ _workers }
+    requires greatest_workers { _workers ≤ MAX_WORKERS }
+
+    // What was read and written explains the outcome.
+    ensures outcome { Took (S.left source.old) (S.left source.new) (λ input. IsWithinLimit input ×
+        Gained (K.text out.old) (K.text out.new) (Explains (IsAtEnd (S.left source.new)) result input)) }
+    ensures ended { IsDone result → IsAtEnd (S.left source.new) }
+
+    // A fault of the outside comes only where a count of faults rose.
+    ensures read { result ≡ Outcome.Refused Fault.Read → Rose (S.faults source.old) (S.faults source.new) }
+    ensures write { result ≡ Outcome.Refused Fault.Write → Rose (K.faults out.old) (K.faults out.new) }
+
+    // An input in the grammar is answered, unless the outside fails or memory runs out.
+    ensures complete { (all : List ℕ) (p : Progress) → S.left source.old ≡ Some all → IsStd all p →
+        ¬ Rose (S.faults source.old) (S.faults source.new) → ¬ Rose (K.faults out.old) (K.faults out.new) →
+        IsDone result ⊎ (result ≡ Outcome.Refused Fault.OutOfMemory) }
+{
+    let (trace, _names) = match read_trace(alloc, source) {
+        Ok(read) => read,
+        Err(fault) => return Outcome::Refused(fault),
+    };
+    let Ok((text, found)) = report(alloc, &trace) else {
+        return Outcome::Refused(Fault::OutOfMemory);
+    };
+    match write_all(out, text.as_bytes()) {
+        Ok(()) => Outcome::Done { found },
+        Err(WriteFault::Failed) => Outcome::Refused(Fault::Write),
+        Err(WriteFault::OutOfMemory) => Outcome::Refused(Fault::OutOfMemory),
+    }
+}

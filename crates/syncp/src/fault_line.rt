@@ -1,0 +1,69 @@
+// The line that a refusal writes.
+ghost use Rattle.std.specs.Prelude.{◌≡◌, ◌++◌, IfOk, codes, string_bytes};
+ghost use Rattle.std.specs.Fmt.{decimal};
+ghost use Rattle.syncp.specs.Faults.{fault_line, kind_text};
+
+use crate::outcome::{Fault, HolderName};
+use sp_base::OutOfMemory;
+use std::alloc::Global;
+use std_text::{StdFault, StdKind};
+
+/// The line of a fault, with its newline. A holder's name stands in it as its bytes are.
+pub fn line_of(alloc: Global, fault: &Fault) -> Result<Vec<u8>, OutOfMemory>
+    ensures { IfOk result (λ line. line.items ≡ fault_line fault.now) }
+{
+    match fault {
+        Fault::Text { fault, holder } => text_line(alloc, fault, holder),
+        Fault::Read => owned(alloc, "read fault\n"),
+        Fault::Write => owned(alloc, "write fault\n"),
+        Fault::OutOfMemory => owned(alloc, "no memory\n"),
+    }
+}
+
+// The line of a refusal of the text.
+fn text_line(alloc: Global, fault: &StdFault, holder: &HolderName) -> Result<Vec<u8>, OutOfMemory>
+    ensures { IfOk result (λ line. line.items ≡ fault_line (Fault.Text fault.now holder.now)) }
+{
+    let head = text_head(alloc, fault)?;
+    let mut line = owned(alloc, head.as_str())?;
+    let Ok(()) = line.extend_from_slice(holder.bytes()) else {
+        return Err(OutOfMemory);
+    };
+    let Ok(()) = line.push(b'\n') else {
+        return Err(OutOfMemory);
+    };
+    Ok(line)
+}
+
+// The line up to the holder's name.
+fn text_head(alloc: Global, fault: &StdFault) -> Result<String, OutOfMemory>
+    ensures { IfOk result (λ head. string_bytes head ≡ codes "line " ++ decimal fault.now.line ++ codes " fault " ++ kind_text fault.now.kind) }
+{
+    let line = fault.line;
+    let kind = kind_name(&fault.kind);
+    match format!(in alloc; "line {line} fault {kind}") {
+        Ok(text) => Ok(text),
+        Err(_) => Err(OutOfMemory),
+    }
+}
+
+// The bytes of a text.
+fn owned(alloc: Global, text: &str) -> Result<Vec<u8>, OutOfMemory>
+    ensures { IfOk result (λ line. line.items ≡ text.now) }
+{
+    match text.as_bytes().to_vec(alloc) {
+        Ok(text) => Ok(text),
+        Err(_) => Err(OutOfMemory),
+    }
+}
+
+// The number and the name of a kind, with a space where the holder's name follows.
+fn kind_name(kind: &StdKind) -> &'static str
+    ensures { result.now ≡ kind_text kind.now }
+{
+    match kind {
+        StdKind::UnknownOperation => "4 UnknownOperation",
+        StdKind::LockHeld(_) => "11 LockHeld ",
+        StdKind::NotHeld => "13 NotHeld",
+    }
+}

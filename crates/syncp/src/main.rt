@@ -1,0 +1,55 @@
+//! Predicts data races from a trace of lock events.
+#![tactic(auto)]
+
+mod analyse;
+mod fault_line;
+mod outcome;
+mod reading;
+mod report;
+mod run;
+mod scan;
+#[cfg(test)]
+mod tests;
+
+use outcome::Status;
+use run::run;
+use sp_base::{OpenGate, StdSink, StdSource};
+use std::process::ExitCode;
+use std::{env, io};
+
+// The words of the command line, or the status where they can't be had.
+fn words(rt: &HostRuntime) -> Result<Vec<String>, Status> {
+    let args = match env::args(rt) {
+        Ok(args) => args,
+        Err(fault) if fault.kind() == io::ErrorKind::OutOfMemory => return Err(Status::NoMemory),
+        Err(_) => return Err(Status::Usage),
+    };
+    let mut words = Vec::new(rt.alloc());
+    for word in args {
+        if words.push(word).is_err() {
+            return Err(Status::NoMemory);
+        }
+    }
+    Ok(words)
+}
+
+fn main(rt: HostRuntime) -> ExitCode {
+    let words = match words(&rt) {
+        Ok(words) => words,
+        Err(status) => return ExitCode::from(status.code()),
+    };
+    let mut source = StdSource::new(rt.stdin());
+    let mut out = StdSink::new(rt.stdout());
+    let mut err = StdSink::new(rt.stderr());
+    let alloc = rt.alloc();
+    let status = run(
+        &rt,
+        alloc,
+        &words,
+        &mut source,
+        &mut out,
+        &mut err,
+        &OpenGate,
+    );
+    ExitCode::from(status.code())
+}

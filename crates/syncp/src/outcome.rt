@@ -1,0 +1,112 @@
+// How a call ended.
+ghost use Rattle.std.specs.Prelude.{◌≡◌, IfOk, []};
+
+use sp_base::OutOfMemory;
+use std::alloc::Global;
+use std::marker::Model;
+use std_text::StdFault;
+use thiserror::Error;
+
+/// The name of the thread that holds a lock, which contracts see as its bytes. It is empty where no thread is named.
+#[derive(Debug, Drop)]
+pub struct HolderName {
+    name: Vec<u8>,
+}
+
+impl Model for HolderName {
+    ghost use Rattle.std.specs.Prelude.{List, ℕ};
+
+    ghost Value = { List ℕ };
+
+    ghost view = { λ h. h.name.items };
+}
+
+impl HolderName {
+    /// No name.
+    pub fn none(alloc: Global) -> HolderName
+        ensures { result ≡ [] }
+    {
+        HolderName {
+            name: Vec::new(alloc),
+        }
+    }
+
+    /// A copy of a name.
+    pub fn new(alloc: Global, name: &[u8]) -> Result<HolderName, OutOfMemory>
+        ensures { IfOk result (λ holder. holder ≡ name.now) }
+    {
+        match name.to_vec(alloc) {
+            Ok(name) => Ok(HolderName { name }),
+            Err(_) => Err(OutOfMemory),
+        }
+    }
+
+    /// The bytes of the name, which need not be UTF-8.
+    pub fn bytes(&self) -> &[u8]
+        ensures { result.now ≡ self.now }
+    {
+        &self.name
+    }
+}
+
+/// Why a call gave no whole output.
+#[derive(Debug, Drop, Error)]
+pub enum Fault {
+    /// The trace is refused. The holder is that of `LockHeld`, and empty for every other kind.
+    #[error("the trace is refused")]
+    Text { fault: StdFault, holder: HolderName },
+    /// The source's count of faults rose.
+    #[error("read fault")]
+    Read,
+    /// The sink's count of faults rose.
+    #[error("write fault")]
+    Write,
+    /// Memory ran out.
+    #[error("no memory")]
+    OutOfMemory,
+}
+
+/// How a call ended: the whole output was written, which has a finding or none, or it was refused.
+#[derive(Debug, Drop)]
+pub enum Outcome {
+    Done { found: bool },
+    Refused(Fault),
+}
+
+/// The status of a run.
+#[derive(Clone, Copy, Debug, PartialEq, Eq)]
+pub enum Status {
+    /// The whole output was written, and has no finding.
+    Clean,
+    /// The whole output was written, and has a finding.
+    Found,
+    /// The words have no reading.
+    Usage,
+    /// The trace is refused.
+    Refused,
+    /// The source's count of faults rose.
+    ReadFault,
+    /// The output's count of faults rose.
+    WriteFault,
+    /// Memory ran out.
+    NoMemory,
+}
+
+impl Status {
+    ghost use Rattle.syncp.specs.Run.{code_of};
+
+    /// The number of the status.
+    pub fn code(&self) -> u8
+        ensures { result ≡ code_of self.now }
+    {
+        match self {
+            Status::Clean => 0,
+            Status::Found => 1,
+            Status::Usage => 2,
+            Status::Refused => 3,
+            Status::ReadFault => 5,
+            Status::WriteFault => 6,
+            Status::NoMemory => 7,
+        }
+    }
+}

@@ -1,0 +1,470 @@
+// What a run leaves: its status, and what it writes to its output and to its line of faults.
+ghost use Rattle.std.specs.Prelude.{◌<◌};
+
+use crate::outcome::Status;
+use crate::run::run;
+use sp_base::{MemSink, MemSource, OpenGate};
+use std::alloc::{AllocError, Global};
+use std::sync::Wait;
+use std::test::Fail;
+use std::thread::Threads;
+
+// Words of the command line.
+fn words(alloc: Global, texts: &[&str]) -> Result<Vec<String>, AllocError> {
+    let mut words = Vec::new(alloc);
+    for text in texts {
+        words.push(String::from_str(alloc, text)?)?;
+    }
+    Ok(words)
+}
+
+// A source of the bytes in pieces, which fails at some calls.
+fn source(alloc: Global, bytes: &[u8], piece: u32, fails: &[u32]) -> Result<MemSource, AllocError>
+    requires { 0 < piece }
+{
+    Ok(MemSource::new(bytes.to_vec(alloc)?, piece, fails.to_vec(alloc)?))
+}
+
+// A sink that takes so many bytes a write, and fails at some calls.
+fn sink(alloc: Global, take: u32, fails: &[u32]) -> Result<MemSink, AllocError>
+    requires { 0 < take }
+{
+    Ok(MemSink::new(alloc, take, fails.to_vec(alloc)?))
+}
+
+// What a run is wanted to leave.
+#[derive(Clone, Copy)]
+struct Left<'a> {
+    out: &'a [u8],
+    err: &'a [u8],
+    code: u8,
+}
+
+// What a run leaves for a text that is refused with this line.
+fn refused(err: &[u8]) -> Left<'_> {
+    Left {
+        out: b"",
+        err,
+        code: 3,
+    }
+}
+
+// Whether a run left this.
+fn is_left(status: Status, out: &MemSink, err: &MemSink, left: &Left) -> bool {
+    status.code() == left.code && out.text() == left.out && err.text() == left.err
+}
+
+// Whether `predict` leaves this for a text in pieces, where nothing of the outside fails.
+fn leaves<R: Threads + Wait + Sync>(
+    rt: &R,
+    alloc: Global,
+    text: &[u8],
+    piece: u32,
+    left: &Left,
+) -> Result<bool, AllocError>
+    requires { 0 < piece }
+{
+    let words = words(alloc, &["syncp", "predict"])?;
+    let mut source = source(alloc, text, piece, &[])?;
+    let mut out = sink(alloc, 1_000, &[])?;
+    let mut err = sink(alloc, 1_000, &[])?;
+    let status = run(
+        rt,
+        alloc,
+        &words,
+        &mut source,
+        &mut out,
+        &mut err,
+        &OpenGate,
+    );
+    Ok(is_left(status, &out, &err, left))
+}
+
+#[test]
+fn reports_of_traces(rt: HostRuntime) -> Result<(), Fail> {
+    let alloc = rt.alloc();
+    for (case, text, out, code) in [
+        ("no bytes", "", "races 0 deadlocks 0\n", 0),
+        (
+            "two bare writes",
+            "T0|w(X)|1\nT1|w(X)|2\n",
+            "race 1 with 0 at 2 1 keep 0 0\nraces 1 deadlocks 0\n",
+            1,
+        ),
+        (
+            "one lock round both",
+            "T0|acq(L)|1\nT0|w(X)|2\nT0|rel(L)|3\nT1|acq(L)|4\nT1|w(X)|5\nT1|rel(L)|6\n",
+            "races 0 deadlocks 0\n",
+            0,
+        ),
+        (
+            "a pair that happens-before orders",
+            "T0|w(X)|1\nT0|acq(L)|2\nT0|rel(L)|3\nT1|acq(L)|4\nT1|rel(L)|5\nT1|w(X)|6\n",
+            "race 5 with 0 at 6 1 keep 0 2\nraces 1 deadlocks 0\n",
+            1,
+        ),
+        (
+            "a read of what a section wrote",
+            "T0|w(X)|1\nT0|acq(L)|2\nT0|w(Y)|3\nT0|rel(L)|4\nT1|acq(L)|5\nT1|r(Y)|6\nT1|rel(L)|7\nT1|w(X)|8\n",
+            "races 0 deadlocks 0\n",
+            0,
+        ),
+        (
+            "a race only by swapped acquires",
+            "T0|acq(L)|1\nT0|w(X)|2\nT0|rel(L)|3\nT1|acq(L)|4\nT1|rel(L)|5\nT1|w(X)|6\n",
+            "races 0 deadlocks 0\n",
+            0,
+        ),
+        (
+            "a lock cycle behind a read",
+            "T0|acq(A)|1\nT0|acq(B)|2\nT0|rel(B)|3\nT0|rel(A)|4\nT0|w(Z)|5\nT1|r(Z)|6\nT1|acq(B)|7\nT1|acq(A)|8\nT1|rel(A)|9\nT1|rel(B)|10\n",
+            "race 5 with 4 at 6 5 keep 4 0\nraces 1 deadlocks 0\n",
+            1,
+        ),
+        (
+            "one lock round a lock cycle",
+            "T0|acq(G)|1\nT0|acq(A)|2\nT0|acq(B)|3\nT0|rel(B)|4\nT0|rel(A)|5\nT0|rel(G)|6\nT1|acq(G)|7\nT1|acq(B)|8\nT1|acq(A)|9\nT1|rel(A)|10\nT1|rel(B)|11\nT1|rel(G)|12\n",
+            "races 0 deadlocks 0\n",
+            0,
+        ),
+        (
+            "an end inside a section",
+            "T0|acq(L)|1\nT0|w(X)|2\nT1|w(X)|3\n",
+            "race 2 with 1 at 3 2 keep 1 0\nraces 1 deadlocks 0\n",
+            1,
+        ),
+        (
+            "a partner that is not the last access",
+            "T0|w(X)|1\nT0|acq(L)|2\nT0|w(X)|3\nT0|rel(L)|4\nT1|acq(L)|5\nT1|w(X)|6\nT1|rel(L)|7\n",
+            "race 5 with 0 at 6 1 keep 0 1\nraces 1 deadlocks 0\n",
+            1,
+        ),
+        (
+            "the earliest of two partners",
+            "T0|w(X)|1\nT0|w(X)|2\nT1|w(X)|3\n",
+            "race 2 with 0 at 3 1 keep 0 0\nraces 1 deadlocks 0\n",
+            1,
+        ),
+        (
+            "empty lines, carriage returns and no locations",
+            "T0|w(X)\r\n\r\n\nT1|w(X)|7 \n\nT0|r(Y)",
+            "race 1 with 0 at 0 0 keep 0 0\nraces 1 deadlocks 0\n",
+            1,
+        ),
+    ] {
+        let left = Left {
+            out: out.as_bytes(),
+            err: b"",
+            code,
+        };
+        for piece in [1, 3, 1_000] {
+            assert!(rt;
+                leaves(&rt, alloc, text.as_bytes(), piece, &left)?,
+                "{case}"
+            );
+        }
+    }
+    Ok(())
+}
+
+#[test]
+fn refused_traces(rt: HostRuntime) -> Result<(), Fail> {
+    let alloc = rt.alloc();
+    for (case, text, err) in [
+        ("no bar", "T0 w(X)\n", "line 1 fault 4 UnknownOperation\n"),
+        ("no thread", "|w(X)\n", "line 1 fault 4 UnknownOperation\n"),
+        (
+            "a thread that is no name",
+            "T(0)|w(X)\n",
+            "line 1 fault 4 UnknownOperation\n",
+        ),
+        (
+            "an unknown operation",
+            "\nT0|write(X)\n",
+            "line 2 fault 4 UnknownOperation\n",
+        ),
+        (
+            "a fork",
+            "T0|fork(T1)|1\n",
+            "line 1 fault 4 UnknownOperation\n",
+        ),
+        (
+            "a join",
+            "T0|join(T1)|1\n",
+            "line 1 fault 4 UnknownOperation\n",
+        ),
+        (
+            "a begin",
+            "T0|begin|1\n",
+            "line 1 fault 4 UnknownOperation\n",
+        ),
+        (
+            "an end",
+            "T0|end(m)|1\n",
+            "line 1 fault 4 UnknownOperation\n",
+        ),
+        (
+            "no operand",
+            "T0|w()|1\n",
+            "line 1 fault 4 UnknownOperation\n",
+        ),
+        (
+            "an open operand",
+            "T0|w(X",
+            "line 1 fault 4 UnknownOperation\n",
+        ),
+        (
+            "an operand that is no name",
+            "T0|w(X(0))|1\n",
+            "line 1 fault 4 UnknownOperation\n",
+        ),
+        (
+            "a lock that another thread holds",
+            "T0|acq(L)|1\nT1|acq(L)|2\n",
+            "line 2 fault 11 LockHeld T0\n",
+        ),
+        (
+            "a lock that the own thread holds",
+            "T0|w(X)\nmain|acq(L)\n\nmain|acq(L)",
+            "line 4 fault 11 LockHeld main\n",
+        ),
+        (
+            "a lock that nobody holds",
+            "T0|rel(L)",
+            "line 1 fault 13 NotHeld\n",
+        ),
+        (
+            "a lock that another thread releases",
+            "T0|acq(L)\nT1|rel(L)\n",
+            "line 2 fault 13 NotHeld\n",
+        ),
+        (
+            "two faults, of which the first is told",
+            "T0|w(X)\nT0|rel(L)\nT0\n",
+            "line 2 fault 13 NotHeld\n",
+        ),
+    ] {
+        let left = Left {
+            out: b"",
+            err: err.as_bytes(),
+            code: 3,
+        };
+        for piece in [1, 3, 1_000] {
+            assert!(rt;
+                leaves(&rt, alloc, text.as_bytes(), piece, &left)?,
+                "{case}"
+            );
+        }
+    }
+    Ok(())
+}
+
+// So many copies of a text.
+fn repeated(alloc: Global, text: &[u8], count: u32) -> Result<Vec<u8>, AllocError> {
+    let mut all = Vec::new(alloc);
+    for _ in 0..count {
+        all.extend_from_slice(text)?;
+    }
+    Ok(all)
+}
+
+// A line for each of so many threads.
+fn threads(alloc: Global, count: u32) -> Result<Vec<u8>, AllocError> {
+    let mut all = Vec::new(alloc);
+    for thread in 0..count {
+        let line = format!(in alloc; "T{thread}|r(X)\n")?;
+        all.extend_from_slice(line.as_bytes())?;
+    }
+    Ok(all)
+}
+
+#[test]
+fn traces_past_a_limit(rt: HostRuntime) -> Result<(), Fail> {
+    let alloc = rt.alloc();
+    let first = refused(b"line 1 fault 4 UnknownOperation\n");
+    let mut name = repeated(alloc, b"T", 256)?;
+    name.extend_from_slice(b"|w(X)\n")?;
+    assert!(rt;
+        leaves(&rt, alloc, &name, 1_000, &first)?,
+        "a name of 256 bytes"
+    );
+    let mut line = repeated(alloc, b"T0|w(X)|", 1)?;
+    line.extend_from_slice(&repeated(alloc, b"0", 4_089)?)?;
+    assert!(rt;
+        leaves(&rt, alloc, &line, 1_000, &first)?,
+        "a line of 4,097 bytes"
+    );
+    Ok(())
+}
+
+#[test]
+fn threads_past_the_limit(rt: HostRuntime) -> Result<(), Fail> {
+    let alloc = rt.alloc();
+    let last = refused(b"line 65 fault 4 UnknownOperation\n");
+    let text = threads(alloc, 65)?;
+    assert!(rt; leaves(&rt, alloc, &text, 1_000, &last)?);
+    Ok(())
+}
+
+#[test]
+fn events_past_the_limit(rt: HostRuntime) -> Result<(), Fail> {
+    let alloc = rt.alloc();
+    let last = refused(b"line 65537 fault 4 UnknownOperation\n");
+    let text = repeated(alloc, b"T0|r(X)\n", 65_537)?;
+    assert!(rt; leaves(&rt, alloc, &text, 1_000, &last)?);
+    Ok(())
+}
+
+#[test]
+fn a_holder_whose_name_is_no_text(rt: HostRuntime) -> Result<(), Fail> {
+    let alloc = rt.alloc();
+    let left = refused(b"line 2 fault 11 LockHeld \xff \x00\n");
+    assert!(rt; leaves(&rt, alloc, b"\xff \x00|acq(L)\nT1|acq(L)\n", 3, &left)?);
+    Ok(())
+}
+
+// Whether `predict` leaves this for two bare writes in pieces of 4 bytes, where the listed calls of the outside fail
+// and the sinks take one byte a write.
+fn leaves_failing<R: Threads + Wait + Sync>(
+    rt: &R,
+    alloc: Global,
+    reads: &[u32],
+    writes: &[u32],
+    told: &[u32],
+    left: &Left,
+) -> Result<bool, AllocError> {
+    let words = words(alloc, &["syncp", "predict"])?;
+    let mut source = source(alloc, b"T0|w(X)|1\nT1|w(X)|2\n", 4, reads)?;
+    let mut out = sink(alloc, 1, writes)?;
+    let mut err = sink(alloc, 1, told)?;
+    let status = run(
+        rt,
+        alloc,
+        &words,
+        &mut source,
+        &mut out,
+        &mut err,
+        &OpenGate,
+    );
+    Ok(is_left(status, &out, &err, left))
+}
+
+#[test]
+fn faults_of_the_source(rt: HostRuntime) -> Result<(), Fail> {
+    let left = Left {
+        out: b"",
+        err: b"read fault\n",
+        code: 5,
+    };
+    for (case, call) in [
+        ("before the text", 1),
+        ("in the text", 2),
+        ("after the text", 6),
+    ] {
+        assert!(rt;
+            leaves_failing(&rt, rt.alloc(), &[call], &[], &[], &left)?,
+            "{case}"
+        );
+    }
+    Ok(())
+}
+
+#[test]
+fn faults_of_the_output(rt: HostRuntime) -> Result<(), Fail> {
+    for (case, call, out) in [("at the first call", 1, ""), ("at the third call", 3, "ra")] {
+        let left = Left {
+            out: out.as_bytes(),
+            err: b"write fault\n",
+            code: 6,
+        };
+        assert!(rt;
+            leaves_failing(&rt, rt.alloc(), &[], &[call], &[], &left)?,
+            "{case}"
+        );
+    }
+    Ok(())
+}
+
+#[test]
+fn faults_of_the_line(rt: HostRuntime) -> Result<(), Fail> {
+    for (case, call, err) in [
+        ("at the first call", 1, ""),
+        ("at the fifth call", 5, "read"),
+    ] {
+        let left = Left {
+            out: b"",
+            err: err.as_bytes(),
+            code: 5,
+        };
+        assert!(rt;
+            leaves_failing(&rt, rt.alloc(), &[2], &[], &[call], &left)?,
+            "{case}"
+        );
+    }
+    Ok(())
+}
+
+#[test]
+fn a_fault_of_the_text_before_one_of_the_source(rt: HostRuntime) -> Result<(), Fail> {
+    let alloc = rt.alloc();
+    let words = words(alloc, &["syncp", "predict"])?;
+    let mut source = source(alloc, b"T0\nT1|w(X)\n", 4, &[2])?;
+    let mut out = sink(alloc, 1_000, &[])?;
+    let mut err = sink(alloc, 1_000, &[])?;
+    let status = run(
+        &rt,
+        alloc,
+        &words,
+        &mut source,
+        &mut out,
+        &mut err,
+        &OpenGate,
+    );
+    let left = refused(b"line 1 fault 4 UnknownOperation\n");
+    assert!(rt; is_left(status, &out, &err, &left));
+    Ok(())
+}
+
+// Whether other words leave nothing and status 2.
+fn is_usage<R: Threads + Wait + Sync>(
+    rt: &R,
+    alloc: Global,
+    texts: &[&str],
+) -> Result<bool, AllocError> {
+    let words = words(alloc, texts)?;
+    let mut source = source(alloc, b"T0|w(X)|1\nT1|w(X)|2\n", 4, &[])?;
+    let mut out = sink(alloc, 1, &[])?;
+    let mut err = sink(alloc, 1, &[])?;
+    let status = run(
+        rt,
+        alloc,
+        &words,
+        &mut source,
+        &mut out,
+        &mut err,
+        &OpenGate,
+    );
+    let left = Left {
+        out: b"",
+        err: b"",
+        code: 2,
+    };
+    Ok(is_left(status, &out, &err, &left))
+}
+
+#[test]
+fn words_without_a_reading(rt: HostRuntime) -> Result<(), Fail> {
+    let alloc = rt.alloc();
+    assert!(rt; is_usage(&rt, alloc, &[])?, "no words");
+    assert!(rt; is_usage(&rt, alloc, &["syncp"])?, "no mode");
+    assert!(rt; is_usage(&rt, alloc, &["syncp", "record"])?, "another mode");
+    assert!(rt;
+        is_usage(&rt, alloc, &["syncp", "predicts"])?,
+        "a longer mode"
+    );
+    assert!(rt;
+        is_usage(&rt, alloc, &["syncp", "predict", "predict"])?,
+        "a word too many"
+    );
+    Ok(())
+}
