@@ -1,0 +1,34 @@
+//! Scripts, and the machine that runs them.
+#![tactic(auto)]
+
+#[cfg(test)]
+mod by_hand;
+mod fault;
+mod flatten;
+mod forks;
+mod ids;
+mod instruction;
+pub mod laws;
+mod lines;
+mod machine;
+mod read;
+#[cfg(test)]
+mod read_trials;
+mod recording;
+mod resolved;
+mod run;
+mod script;
+mod tables;
+mod text;
+mod thread_run;
+#[cfg(test)]
+mod trials;
+mod whole;
+
+pub use fault::{ScriptError, ScriptFault, ScriptKind};
+pub(crate) use instruction::{Instruction, Line};
+pub use machine::{Machine, ThreadState};
+pub use recording::Recording;
+pub use run::Run;
+pub use script::Script;
+pub use thread_run::ThreadRun;
