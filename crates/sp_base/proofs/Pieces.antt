@@ -1,5 +1,5 @@
 -- Giving the front of what is left, copied to the front of a buffer.
-use Rattle.std.proofs.Common.{◌≡◌, ◌<◌, ◌≤◌, ◌+◌, ◌-◌, ℕ, List, ◌++◌, [], length, take, drop, min, refl, sym, ap, ◌∙◌, subst, arith, length-drop, length-append}
+use Rattle.std.proofs.Common.{◌≡◌, ◌<◌, ◌≤◌, ◌+◌, ◌-◌, ℕ, List, ◌++◌, [], length, take, drop, min, sym, subst, arith, length-drop, length-append}
 use Rattle.std.proofs.lemmas.List.{take-append-drop, drop_all, drop-drop}
 use Rattle.std.proofs.Math.Seq.{take-append_seam}
 

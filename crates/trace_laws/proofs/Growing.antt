@@ -1,6 +1,6 @@
 -- A trace that grows by one event.
-use Rattle.std.proofs.Common.{◌≡◌, ◌≢◌, ℕ, suc, ◌+◌, ◌<◌, ◌≤◌, Bool, true, List, [], ◌∷◌, ◌++◌, length, Option, Some, None, ◌⊎◌, inl, inr, refl, sym, ap, subst, ◌∙◌, arith, length-append}
-use Rattle.std.specs.Prelude.{slice_get, slice_set, ◌↔◌}
+use Rattle.std.proofs.Common.{◌≡◌, ◌≢◌, ℕ, suc, ◌+◌, ◌<◌, ◌≤◌, List, [], ◌∷◌, ◌++◌, length, Some, ◌⊎◌, inl, inr, sym, ap, subst, ◌∙◌, arith, length-append}
+use Rattle.std.specs.Prelude.{slice_get, slice_set}
 use Rattle.std.specs.Option.{option_map}
 use Rattle.std.proofs.Math.ListN.{length-set}
 use Rattle.std.proofs.lemmas.List.{get_or-set_same, get_or-set_other}
@@ -8,7 +8,7 @@ use Rattle.std.proofs.lemmas.Option.{slice_get_within, slice_get_past, slice_get
 use Rattle.trace_laws.specs.Event.{Event}
 use Rattle.trace_laws.specs.declared.event.Op.{Op}
 use Rattle.trace_laws.specs.declared.event.Op.TheVariants.{Read, Write, Acquire, Release, Fork, Join}
-use Rattle.trace_laws.specs.Trace.{thread_at, op_at, Acquires, Releases, Holds, LockLaw, ThreadLaw, MeetsLaws, MayFollow, Lawful, IsForked, IsJoined, HasStarted}
+use Rattle.trace_laws.specs.Trace.{thread_at, op_at, Acquires, Releases, Holds, LockLaw, ThreadLaw, MeetsLaws, MayFollow, Lawful, HasStarted}
 use Rattle.trace_laws.specs.Faults.{HoldsNow}
 use Rattle.trace_laws.proofs.Places.{event_of, op_from_event, thread_from_event, three_way, slice_get-append_left, slice_get-append_seam}
 

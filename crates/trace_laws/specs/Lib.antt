@@ -3,6 +3,8 @@ pub mod Trace
 pub mod Reordering
 pub mod Patterns
 pub mod Findings
+pub mod Stored
+pub mod Kept
 pub mod Closed
 pub mod Faults
 pub mod Building

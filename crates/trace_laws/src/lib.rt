@@ -8,6 +8,7 @@
 mod builder;
 mod event;
 mod finding;
+mod findings;
 pub mod laws;
 mod names;
 #[cfg(test)]
@@ -17,5 +18,6 @@ mod trace;
 pub use builder::{Builder, LawFault};
 pub use event::{Event, Op};
 pub use finding::{Deadlock, Finding, Keep, Race};
+pub use findings::Findings;
 pub use names::{NameFault, Names};
 pub use trace::Trace;

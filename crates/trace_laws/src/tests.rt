@@ -1,6 +1,6 @@
 //! Each public call on its happy path.
 
-use crate::{Builder, Deadlock, Event, Finding, Keep, LawFault, Names, Op, Race, Trace};
+use crate::{Builder, Deadlock, Event, Finding, Findings, Keep, LawFault, Names, Op, Race, Trace};
 use sp_base::{LockId, ThreadId, VarId};
 use std::alloc::Global;
 use std::test::Fail;
@@ -59,8 +59,13 @@ fn findings_keep_what_they_are_given(rt: HostRuntime) -> Result<(), Fail> {
         later: 3,
         earlier: 1,
     };
-    let found = Finding::Race(race, keep);
-    assert!(rt; matches!(&found, Finding::Race(_, _)));
+    let mut found = Findings::new(rt.alloc());
+    let none = Keep::new(rt.alloc(), &[])?;
+    found.push(Finding::Deadlock(deadlock, none))?;
+    found.push(Finding::Race(race, keep))?;
+    assert_eq!(rt; found.len(), 2);
+    assert!(rt; matches!(found.get(0), Finding::Race(_, _)));
+    assert!(rt; matches!(found.get(1), Finding::Deadlock(_, _)));
     Ok(())
 }
 

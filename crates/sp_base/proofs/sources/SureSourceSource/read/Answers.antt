@@ -1,4 +1,4 @@
-use Rattle.std.proofs.Common.{arith, ◌≡◌, ◌-◌, ◌+◌, ℕ, min, take, drop, length, length-take, ap, ◌∙◌}
+use Rattle.std.proofs.Common.{arith, ◌≡◌, ◌-◌, ◌+◌, ℕ, min, take, drop, length, length-take, ◌∙◌}
 use Rattle.sp_base.proofs.Pieces.{piece_given}
 use Rattle.sp_base.proofs.sources.SureSourceSource.read.Goals as goal
 
