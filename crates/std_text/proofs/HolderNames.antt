@@ -15,7 +15,7 @@ use Rattle.std_text.specs.Plain.{ArePlain}
 use Rattle.std_text.specs.Law.{kind_of}
 use Rattle.std_text.specs.Refusal.{Refusal, LineFault, refusal_of, holder_name, IsHolderGiven}
 use Rattle.std_text.specs.declared.fault.StdKind.{StdKind}
-use Rattle.std_text.specs.declared.fault.StdKind.TheVariants.{UnknownOperation, LockHeld, NotHeld}
+use Rattle.std_text.specs.declared.fault.StdKind.TheVariants.{LockHeld}
 
 -- a thread that holds a lock is below the number of threads
 holder_below : (events : List Event) (threads u l : ℕ) → ArePlain events threads → HoldsNow events u l → u < threads
@@ -76,8 +76,7 @@ holder_kept old new thread (LockHeld t) grown given =
     let test = is_numbered old.threads thread in
     let same : slice_get old.threads t ≡ slice_get new.threads t = rw (grown, name_kept old.threads thread t given test) refl in
     (ap (λ o. unwrap_or o []) same, rw grown (given_kept old.threads thread t given test))
-holder_kept old new thread UnknownOperation grown given = (refl, tt)
-holder_kept old new thread NotHeld grown given = (refl, tt)
+holder_kept old new thread _ grown given = (refl, tt)
 
 -- so the refusal is the same with the names after the line
 pub refusal_kept : {A : Type 0} (read : Result A Refusal) (old new : NameLists) (thread : List ℕ) (f : LineFault) → new.threads ≡ with_name old.threads thread → IsHolderGiven old f.kind

@@ -2,7 +2,7 @@
 use Rattle.std.specs.Prelude.{◌<◌, ℕ, List, [], length, slice_get, unwrap_or, Result, Ok, Err}
 use Rattle.trace_laws.specs.Names.{NameLists}
 use Rattle.std_text.specs.declared.fault.StdKind.{StdKind}
-use Rattle.std_text.specs.declared.fault.StdKind.TheVariants.{UnknownOperation, LockHeld, NotHeld}
+use Rattle.std_text.specs.declared.fault.StdKind.TheVariants.{LockHeld}
 
 -- what a fault says: the line that is refused, and why
 pub record LineFault : Type 0 where
@@ -18,14 +18,12 @@ pub record Refusal : Type 0 where
 -- the name of the thread that holds the lock, and no bytes for every other kind
 abbrev pub holder_name : NameLists → StdKind → List ℕ
 holder_name names (LockHeld t) = unwrap_or (slice_get names.threads t) []
-holder_name names UnknownOperation = []
-holder_name names NotHeld = []
+holder_name names _ = []
 
 -- the number of the thread that holds the lock is given out
 abbrev pub IsHolderGiven : NameLists → StdKind → Type 0
 IsHolderGiven names (LockHeld t) = t < length names.threads
-IsHolderGiven names UnknownOperation = Unit {0}
-IsHolderGiven names NotHeld = Unit {0}
+IsHolderGiven names _ = Unit {0}
 
 -- a fault, with the name that the holder has among the names
 abbrev pub refusal_of : NameLists → LineFault → Refusal

@@ -6,7 +6,7 @@ use Rattle.std_text.specs.Refusal.{LineFault, Refusal, refusal_of}
 use Rattle.std_text.specs.declared.fault.ReadFault.{ReadFault}
 use Rattle.std_text.specs.declared.fault.ReadFault.TheVariants as read
 use Rattle.std_text.specs.declared.fault.StdKind.{StdKind}
-use Rattle.std_text.specs.declared.fault.StdKind.TheVariants.{UnknownOperation, LockHeld, NotHeld}
+use Rattle.std_text.specs.declared.fault.StdKind.TheVariants.{LineTooLong, NoBar, BadName, UnknownOperation, BadOperand, InputTooLong, TooManyEvents, TooManyThreads, TooManyLocks, TooManyVars, LockHeld, Reentrant, NotHeld, ForkLate, ForkTwice, SelfThread, AfterJoin}
 use Rattle.syncp.specs.declared.outcome.Fault.{Fault}
 use Rattle.syncp.specs.declared.outcome.Fault.TheVariants.{Text, Read, Write, OutOfMemory}
 
@@ -32,9 +32,23 @@ TellsRefusal read f = ⊥
 
 -- the number and the name of a kind, with a space where the holder's name follows
 abbrev pub kind_text : StdKind → List ℕ
+kind_text LineTooLong = codes "1 LineTooLong"
+kind_text NoBar = codes "2 NoBar"
+kind_text BadName = codes "3 BadName"
 kind_text UnknownOperation = codes "4 UnknownOperation"
+kind_text BadOperand = codes "5 BadOperand"
+kind_text InputTooLong = codes "6 InputTooLong"
+kind_text TooManyEvents = codes "7 TooManyEvents"
+kind_text TooManyThreads = codes "8 TooManyThreads"
+kind_text TooManyLocks = codes "9 TooManyLocks"
+kind_text TooManyVars = codes "10 TooManyVars"
 kind_text (LockHeld t) = codes "11 LockHeld "
+kind_text Reentrant = codes "12 Reentrant"
 kind_text NotHeld = codes "13 NotHeld"
+kind_text ForkLate = codes "14 ForkLate"
+kind_text ForkTwice = codes "15 ForkTwice"
+kind_text SelfThread = codes "16 SelfThread"
+kind_text AfterJoin = codes "17 AfterJoin"
 
 -- the line of a fault
 abbrev pub fault_line : Fault → List ℕ

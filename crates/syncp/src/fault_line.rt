@@ -62,8 +62,22 @@ fn kind_name(kind: &StdKind) -> &'static str
     ensures { result.now ≡ kind_text kind.now }
 {
     match kind {
+        StdKind::LineTooLong => "1 LineTooLong",
+        StdKind::NoBar => "2 NoBar",
+        StdKind::BadName => "3 BadName",
         StdKind::UnknownOperation => "4 UnknownOperation",
+        StdKind::BadOperand => "5 BadOperand",
+        StdKind::InputTooLong => "6 InputTooLong",
+        StdKind::TooManyEvents => "7 TooManyEvents",
+        StdKind::TooManyThreads => "8 TooManyThreads",
+        StdKind::TooManyLocks => "9 TooManyLocks",
+        StdKind::TooManyVars => "10 TooManyVars",
         StdKind::LockHeld(_) => "11 LockHeld ",
+        StdKind::Reentrant => "12 Reentrant",
         StdKind::NotHeld => "13 NotHeld",
+        StdKind::ForkLate => "14 ForkLate",
+        StdKind::ForkTwice => "15 ForkTwice",
+        StdKind::SelfThread => "16 SelfThread",
+        StdKind::AfterJoin => "17 AfterJoin",
     }
 }
