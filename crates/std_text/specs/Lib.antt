@@ -5,3 +5,4 @@ pub mod Meaning
 pub mod Plain
 pub mod Refusal
 pub mod Told
+pub mod Writing

@@ -10,8 +10,10 @@ mod line;
 mod reader;
 #[cfg(test)]
 mod tests;
+mod writing;
 
 pub use fault::{ReadFault, StdFault, StdKind};
 pub use framing::pieces_are_the_text;
 pub use law::holders_hold_the_locks;
 pub use reader::Reader;
+pub use writing::write_event;

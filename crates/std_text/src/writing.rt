@@ -1,0 +1,77 @@
+// The lines of events.
+ghost use Rattle.std.specs.Prelude.{◌≡◌, ◌++◌, IfOk, OnOk, OnErr, codes, string_bytes};
+ghost use Rattle.std.specs.Fmt.{decimal};
+ghost use Rattle.std_text.specs.Writing.{word_of, operand_name, name_at, event_line, IsOperandNamed, IsNamed};
+
+use sp_base::OutOfMemory;
+use std::alloc::Global;
+use trace_laws::{Event, Names, Op};
+
+// The word of an operation.
+fn word(op: &Op) -> &'static str
+    ensures { result.now ≡ word_of op.now }
+{
+    match op {
+        Op::Read(_) => "r",
+        Op::Write(_) => "w",
+        Op::Acquire(_) => "acq",
+        Op::Release(_) => "rel",
+        Op::Fork(_) => "fork",
+        Op::Join(_) => "join",
+    }
+}
+
+// The name of what an operation is on.
+fn operand<'a>(op: &Op, names: &'a Names) -> &'a [u8]
+    requires { IsOperandNamed names.now op.now }
+    ensures { result.now ≡ operand_name names.now op.now }
+{
+    match op {
+        Op::Read(var) | Op::Write(var) => names.var_name(*var),
+        Op::Acquire(lock) | Op::Release(lock) => names.lock_name(*lock),
+        Op::Fork(thread) | Op::Join(thread) => names.thread_name(*thread),
+    }
+}
+
+// What stands behind the operand.
+fn line_end(alloc: Global, location: u32) -> Result<String, OutOfMemory>
+    ensures { IfOk result (λ text. string_bytes text ≡ codes ")|" ++ decimal location ++ codes "\n") }
+{
+    match format!(in alloc; ")|{location}\n") {
+        Ok(text) => Ok(text),
+        Err(_) => Err(OutOfMemory),
+    }
+}
+
+// The line of an event.
+fn line_of(alloc: Global, event: &Event, names: &Names) -> Result<Vec<u8>, OutOfMemory>
+    requires { IsNamed names.now event.now }
+    ensures { IfOk result (λ line. line.items ≡ event_line names.now event.now) }
+{
+    let end = line_end(alloc, event.loc)?;
+    let mut line = names.thread_name(event.thread).to_vec(alloc)?;
+    line.extend_from_slice(b"|")?;
+    line.extend_from_slice(word(&event.op).as_bytes())?;
+    line.extend_from_slice(b"(")?;
+    line.extend_from_slice(operand(&event.op, names))?;
+    line.extend_from_slice(end.as_bytes())?;
+    Ok(line)
+}
+
+/// Appends the line of an event, with its newline, to a text. All that the event names has a name here.
+///
+/// Fails where memory runs out. The text then stays as it was.
+pub fn write_event(
+    alloc: Global,
+    event: &Event,
+    names: &Names,
+    text: &mut Vec<u8>,
+) -> Result<(), OutOfMemory>
+    requires { IsNamed names.now event.now }
+    ensures ok { OnOk result (text.new.items ≡ text.old.items ++ event_line names.now event.now) }
+    ensures err { OnErr result (text.new.items ≡ text.old.items) }
+{
+    let line = line_of(alloc, event, names)?;
+    text.extend_from_slice(&line)?;
+    Ok(())
+}
