@@ -316,6 +316,26 @@ fn events_past_the_limit(rt: HostRuntime) -> Result<(), Fail> {
 }
 
 #[test]
+fn bytes_past_the_limit(rt: HostRuntime) -> Result<(), Fail> {
+    let alloc = rt.alloc();
+    let mut text = repeated(alloc, &[b'\n'; 64], 262_144)?;
+    text.push(b'\n')?;
+    let newline = refused(b"line 16777217 fault 4 UnknownOperation\n");
+    assert!(rt;
+        leaves(&rt, alloc, &text, 65_536, &newline)?,
+        "one newline more"
+    );
+    text.truncate(16_777_215);
+    text.extend_from_slice(b"T0")?;
+    let midst = refused(b"line 16777216 fault 4 UnknownOperation\n");
+    assert!(rt;
+        leaves(&rt, alloc, &text, 65_536, &midst)?,
+        "one byte more in the midst of a line"
+    );
+    Ok(())
+}
+
+#[test]
 fn a_holder_whose_name_is_no_text(rt: HostRuntime) -> Result<(), Fail> {
     let alloc = rt.alloc();
     let left = refused(b"line 2 fault 11 LockHeld \xff \x00\n");
