@@ -86,6 +86,14 @@ impl Builder {
         })
     }
 
+    /// Whether the builder has as many events as it may have.
+    pub fn is_full(&self) -> bool
+        ensures value { IsTrue result ↔ (length self.now.events ≡ self.now.capacity) }
+        ensures within { length self.now.events ≤ self.now.capacity }
+    {
+        self.events.len() == self.capacity as usize
+    }
+
     // The thread that holds the lock.
     fn owner(&self, lock: LockId) -> Option<ThreadId>
         ensures { (t : ℕ) → (result ≡ Some t) ↔ HoldsNow self.now.events t lock }
