@@ -4,3 +4,5 @@ pub mod Pairs
 pub mod Linking
 pub mod Raised
 pub mod Scanning
+pub mod GivenNames
+pub mod Recordings

@@ -4,3 +4,4 @@ pub mod Outcome
 pub mod Run
 pub mod Accesses
 pub mod Predictions
+pub mod Recorded

@@ -5,6 +5,7 @@ mod analyse;
 mod fault_line;
 mod outcome;
 mod reading;
+mod recorded_text;
 mod report;
 mod run;
 mod scan;
