@@ -6,3 +6,4 @@ pub mod Raised
 pub mod Scanning
 pub mod GivenNames
 pub mod Recordings
+pub mod Gathering

@@ -8,11 +8,9 @@ use Rattle.std_text.specs.declared.fault.ReadFault.TheVariants as read
 use Rattle.std_text.specs.declared.fault.StdKind.{StdKind}
 use Rattle.std_text.specs.declared.fault.StdKind.TheVariants.{LineTooLong, NoBar, BadName, UnknownOperation, BadOperand, InputTooLong, TooManyEvents, TooManyThreads, TooManyLocks, TooManyVars, LockHeld, Reentrant, NotHeld, ForkLate, ForkTwice, SelfThread, AfterJoin}
 use Rattle.syncp.specs.declared.outcome.Fault.{Fault}
-use Rattle.syncp.specs.declared.outcome.Fault.TheVariants.{Text, Read, Write, OutOfMemory}
-
--- a refusal of the text as the program's fault
-abbrev pub text_fault : Refusal → Fault
-text_fault r = Text (record { line = r.line; kind = r.kind }) r.holder
+use Rattle.script_machine.specs.declared.fault.ScriptKind.{ScriptKind}
+use Rattle.script_machine.specs.declared.fault.ScriptKind.TheVariants as script
+use Rattle.syncp.specs.declared.outcome.Fault.TheVariants.{Text, Script, Read, Write, OutOfMemory}
 
 -- the refusal that a fault and a holder's name tell
 abbrev pub refusal_with : LineFault → List ℕ → Refusal
@@ -50,9 +48,25 @@ kind_text ForkTwice = codes "15 ForkTwice"
 kind_text SelfThread = codes "16 SelfThread"
 kind_text AfterJoin = codes "17 AfterJoin"
 
+-- the number and the name of a kind of fault that a script has
+abbrev pub script_kind_text : ScriptKind → List ℕ
+script_kind_text script.UnknownWord = codes "21 UnknownWord"
+script_kind_text script.Operand = codes "22 Operand"
+script_kind_text script.Number = codes "23 Number"
+script_kind_text script.NoThread = codes "24 NoThread"
+script_kind_text script.TwiceNamed = codes "25 TwiceNamed"
+script_kind_text script.UnknownThread = codes "26 UnknownThread"
+script_kind_text script.ForkedTwice = codes "27 ForkedTwice"
+script_kind_text script.OpenBlock = codes "28 OpenBlock"
+script_kind_text script.StrayEnd = codes "29 StrayEnd"
+script_kind_text script.TooDeep = codes "30 TooDeep"
+script_kind_text script.TooManyInstructions = codes "31 TooManyInstructions"
+script_kind_text script.TooManyNames = codes "32 TooManyNames"
+
 -- the line of a fault
 abbrev pub fault_line : Fault → List ℕ
 fault_line (Text f holder) = codes "line " ++ decimal f.line ++ codes " fault " ++ kind_text f.kind ++ holder ++ codes "\n"
+fault_line (Script f) = codes "line " ++ decimal f.line ++ codes " fault " ++ script_kind_text f.kind ++ codes "\n"
 fault_line Read = codes "read fault\n"
 fault_line Write = codes "write fault\n"
 fault_line OutOfMemory = codes "no memory\n"

@@ -5,3 +5,5 @@ pub mod Run
 pub mod Accesses
 pub mod Predictions
 pub mod Recorded
+pub mod Modes
+pub mod Statuses

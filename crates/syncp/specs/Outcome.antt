@@ -6,18 +6,22 @@ use Rattle.std_text.specs.Framing.{Progress}
 use Rattle.std_text.specs.Refusal.{Refusal}
 use Rattle.std_text.specs.Told.{Told}
 use Rattle.syncp.specs.declared.outcome.Fault.{Fault}
-use Rattle.syncp.specs.declared.outcome.Fault.TheVariants.{Text, Read, Write, OutOfMemory}
+use Rattle.syncp.specs.declared.outcome.Fault.TheVariants.{Text, Script, Read, Write, OutOfMemory}
 use Rattle.syncp.specs.declared.outcome.Outcome.{Outcome}
 use Rattle.syncp.specs.declared.outcome.Outcome.TheVariants.{Done, Refused}
-use Rattle.syncp.specs.Faults.{refusal_with, TellsRefusal}
-use Rattle.syncp.specs.Output.{history_of, IsStd, IsKnownFault, HasNoFault, IsOutput, IsFrontOfOutput}
+use Rattle.syncp.specs.declared.mode.Mode.{Mode}
+use Rattle.syncp.specs.declared.mode.Mode.TheVariants.{Predict}
+use Rattle.syncp.specs.Faults.{TellsRefusal}
+use Rattle.syncp.specs.Modes.{IsOutputOf, IsFrontOf, HasNoFaultIn, IsRefusedIn}
+use Rattle.syncp.specs.Output.{history_of, IsStd}
 
 -- a fault while the input was read
-abbrev pub FailsToRead : Type 0 → Fault → List ℕ → Type 0
-FailsToRead Ended (Text f holder) input = IsKnownFault Ended input (refusal_with f holder)
-FailsToRead Ended Read input = HasNoFault input
-FailsToRead Ended Write input = ⊥
-FailsToRead Ended OutOfMemory input = Unit {0}
+abbrev pub FailsToRead : Mode → Type 0 → Fault → List ℕ → Type 0
+FailsToRead mode Ended (Text f holder) input = IsRefusedIn mode Ended (Text f holder) input
+FailsToRead mode Ended (Script f) input = IsRefusedIn mode Ended (Script f) input
+FailsToRead mode Ended Read input = HasNoFaultIn mode input
+FailsToRead mode Ended Write input = ⊥
+FailsToRead mode Ended OutOfMemory input = Unit {0}
 
 -- where the text gives read, a reader went on to it, or the fault tells why the text is refused there
 abbrev pub GoesOn : Result Progress Refusal → Told → Result (Unit {0}) Fault → Type 0
@@ -32,15 +36,16 @@ Ends read (Err fault) = TellsRefusal read fault
 -- a reading of all the input, or a fault
 abbrev pub IsReadFrom : Type 0 → Result (History × NameLists) Fault → List ℕ → Type 0
 IsReadFrom Ended (Ok read) input = (p : Progress) × IsStd input p × (read.0 ≡ history_of p) × (read.1 ≡ p.reading.names)
-IsReadFrom Ended (Err fault) input = FailsToRead Ended fault input
+IsReadFrom Ended (Err fault) input = FailsToRead Predict Ended fault input
 
--- what was read and written explains the outcome
-abbrev pub Explains : Type 0 → Outcome → List ℕ → List ℕ → Type 0
-Explains Ended (Done found) input text = IsOutput input text found
-Explains Ended (Refused (Text f holder)) input text = IsKnownFault Ended input (refusal_with f holder) × (text ≡ [])
-Explains Ended (Refused Read) input text = HasNoFault input × (text ≡ [])
-Explains Ended (Refused Write) input text = IsFrontOfOutput input text × Ended
-Explains Ended (Refused OutOfMemory) input text = (text ≡ []) ⊎ (IsFrontOfOutput input text × Ended)
+-- what was read and written explains the outcome of a mode
+abbrev pub Explains : Mode → Type 0 → Outcome → List ℕ → List ℕ → Type 0
+Explains mode Ended (Done found) input text = IsOutputOf mode input text found
+Explains mode Ended (Refused (Text f holder)) input text = IsRefusedIn mode Ended (Text f holder) input × (text ≡ [])
+Explains mode Ended (Refused (Script f)) input text = IsRefusedIn mode Ended (Script f) input × (text ≡ [])
+Explains mode Ended (Refused Read) input text = HasNoFaultIn mode input × (text ≡ [])
+Explains mode Ended (Refused Write) input text = IsFrontOf mode input text × Ended
+Explains mode Ended (Refused OutOfMemory) input text = (text ≡ []) ⊎ (IsFrontOf mode input text × Ended)
 
 -- the whole output was written
 abbrev pub IsDone : Outcome → Type 0

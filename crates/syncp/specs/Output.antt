@@ -10,7 +10,6 @@ use Rattle.syncp.specs.Predictions.{ArePredictions}
 use Rattle.trace_laws.specs.Traces.{History}
 use Rattle.std_text.specs.Refusal.{Refusal, ◌>>=◌}
 use Rattle.std_text.specs.Framing.{Progress, start, after, closed}
-use Rattle.sp_base.specs.Moves.{IsFront}
 use Rattle.sp_base.specs.declared.limits.TheConstants.{MAX_INPUT}
 
 -- no byte more than the limit and one was taken
@@ -63,7 +62,3 @@ IsReport h text found = (races : List Prediction) × ArePredictions h races
 -- the output for an input
 abbrev pub IsOutput : List ℕ → List ℕ → Bool → Type 0
 IsOutput input text found = (p : Progress) × IsStd input p × IsReport (history_of p) text found
-
--- a front of an output
-abbrev pub IsFrontOfOutput : List ℕ → List ℕ → Type 0
-IsFrontOfOutput input text = (whole : List ℕ) × (found : Bool) × IsOutput input whole found × IsFront text whole

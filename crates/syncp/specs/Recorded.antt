@@ -1,10 +1,16 @@
 -- What is recorded of a script.
-use Rattle.std.specs.Prelude.{◌≡◌, ℕ, List, Some, slice_get}
+use Rattle.std.specs.Prelude.{◌≡◌, ◌<◌, ◌≤◌, ◌+◌, ℕ, List, Some, slice_get, length, take, ◌==◌}
+use Rattle.std.specs.List.{count_by}
+use Rattle.sp_base.specs.declared.limits.TheConstants.{MAX_INPUT}
 use Rattle.trace_laws.specs.Event.{Event}
 use Rattle.trace_laws.specs.Names.{NameLists}
+use Rattle.std_text.specs.Fields.{newline}
+use Rattle.std_text.specs.Refusal.{LineFault}
 use Rattle.std_text.specs.Writing.{IsNamed, trace_text}
+use Rattle.std_text.specs.declared.fault.StdKind.TheVariants.{InputTooLong}
 use Rattle.script_machine.specs.Machine.{Script, State, LegalRun, IsComplete}
 use Rattle.script_machine.specs.Lowest.{LegalLowestRun}
+use Rattle.script_machine.specs.ScriptText.{Scripts}
 
 -- all that the events name has a name
 abbrev pub AreNamed : NameLists → List Event → Type 0
@@ -20,3 +26,20 @@ pub record IsLowestRecording (script : Script) (events : List Event) : Type 0 wh
 -- the text of such a run, with the names of the script
 abbrev pub IsRecordedText : Script → List ℕ → Type 0
 IsRecordedText script text = (events : List Event) × IsLowestRecording script events × (text ≡ trace_text script.names events)
+
+-- the text of such a run of the script that the input is
+pub record IsRecordOf (input text : List ℕ) : Type 0 where
+  pub few : length input ≤ MAX_INPUT
+  pub script : Script
+  pub scripts : Scripts input script
+  pub recorded : IsRecordedText script text
+
+-- how many newlines there are
+abbrev pub newlines : List ℕ → ℕ
+newlines bytes = count_by (λ b. b == newline) bytes
+
+-- the input has the first byte that is one too many, and the fault has the line that it belongs to: a newline belongs to the line that it ends
+pub record IsTooLong (input : List ℕ) (fault : LineFault) : Type 0 where
+  pub over : MAX_INPUT < length input
+  pub line : fault.line ≡ newlines (take MAX_INPUT input) + 1
+  pub kind : fault.kind ≡ InputTooLong

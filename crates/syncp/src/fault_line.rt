@@ -1,9 +1,10 @@
 // The line that a refusal writes.
 ghost use Rattle.std.specs.Prelude.{◌≡◌, ◌++◌, IfOk, codes, string_bytes};
 ghost use Rattle.std.specs.Fmt.{decimal};
-ghost use Rattle.syncp.specs.Faults.{fault_line, kind_text};
+ghost use Rattle.syncp.specs.Faults.{fault_line, kind_text, script_kind_text};
 
 use crate::outcome::{Fault, HolderName};
+use script_machine::{ScriptFault, ScriptKind};
 use sp_base::OutOfMemory;
 use std::alloc::Global;
 use std_text::{StdFault, StdKind};
@@ -14,6 +15,7 @@ pub fn line_of(alloc: Global, fault: &Fault) -> Result<Vec<u8>, OutOfMemory>
 {
     match fault {
         Fault::Text { fault, holder } => text_line(alloc, fault, holder),
+        Fault::Script(fault) => script_line(alloc, fault),
         Fault::Read => owned(alloc, "read fault\n"),
         Fault::Write => owned(alloc, "write fault\n"),
         Fault::OutOfMemory => owned(alloc, "no memory\n"),
@@ -79,5 +81,45 @@ fn kind_name(kind: &StdKind) -> &'static str
         StdKind::ForkTwice => "15 ForkTwice",
         StdKind::SelfThread => "16 SelfThread",
         StdKind::AfterJoin => "17 AfterJoin",
+    }
+}
+
+// The line of a refusal of a script.
+fn script_line(alloc: Global, fault: &ScriptFault) -> Result<Vec<u8>, OutOfMemory>
+    ensures { IfOk result (λ line. line.items ≡ fault_line (Fault.Script fault.now)) }
+{
+    let text = script_text(alloc, fault)?;
+    owned(alloc, text.as_str())
+}
+
+// The line of a refusal of a script, as a text.
+fn script_text(alloc: Global, fault: &ScriptFault) -> Result<String, OutOfMemory>
+    ensures { IfOk result (λ text. string_bytes text ≡ fault_line (Fault.Script fault.now)) }
+{
+    let line = fault.line;
+    let kind = script_kind_name(&fault.kind);
+    match format!(in alloc; "line {line} fault {kind}\n") {
+        Ok(text) => Ok(text),
+        Err(_) => Err(OutOfMemory),
+    }
+}
+
+// The number and the name of a kind of fault that a script has.
+fn script_kind_name(kind: &ScriptKind) -> &'static str
+    ensures { result.now ≡ script_kind_text kind.now }
+{
+    match kind {
+        ScriptKind::UnknownWord => "21 UnknownWord",
+        ScriptKind::Operand => "22 Operand",
+        ScriptKind::Number => "23 Number",
+        ScriptKind::NoThread => "24 NoThread",
+        ScriptKind::TwiceNamed => "25 TwiceNamed",
+        ScriptKind::UnknownThread => "26 UnknownThread",
+        ScriptKind::ForkedTwice => "27 ForkedTwice",
+        ScriptKind::OpenBlock => "28 OpenBlock",
+        ScriptKind::StrayEnd => "29 StrayEnd",
+        ScriptKind::TooDeep => "30 TooDeep",
+        ScriptKind::TooManyInstructions => "31 TooManyInstructions",
+        ScriptKind::TooManyNames => "32 TooManyNames",
     }
 }

@@ -1,16 +1,22 @@
-//! Predicts data races from a trace of lock events.
+//! Predicts data races from a trace of lock events, and records such traces from scripts.
 #![tactic(auto)]
 
 mod analyse;
 mod fault_line;
+mod mode;
 mod outcome;
 mod reading;
+mod record_mode;
+#[cfg(test)]
+mod record_tests;
 mod recorded_text;
 mod report;
 mod run;
 mod scan;
+mod status;
 #[cfg(test)]
 mod tests;
+mod whole_text;
 
 use outcome::Status;
 use run::run;

@@ -1,6 +1,7 @@
 // How a call ended.
 ghost use Rattle.std.specs.Prelude.{◌≡◌, IfOk, []};
 
+use script_machine::ScriptFault;
 use sp_base::OutOfMemory;
 use std::alloc::Global;
 use std::marker::Model;
@@ -55,6 +56,9 @@ pub enum Fault {
     /// The trace is refused. The holder is that of `LockHeld`, and empty for every other kind.
     #[error("the trace is refused")]
     Text { fault: StdFault, holder: HolderName },
+    /// The script is refused.
+    #[error("the script is refused")]
+    Script(ScriptFault),
     /// The source's count of faults rose.
     #[error("read fault")]
     Read,
@@ -82,8 +86,10 @@ pub enum Status {
     Found,
     /// The words have no reading.
     Usage,
-    /// The trace is refused.
+    /// The input is refused, and passes no limit.
     Refused,
+    /// The input is refused, since it passes a limit.
+    Limit,
     /// The source's count of faults rose.
     ReadFault,
     /// The output's count of faults rose.
@@ -93,7 +99,7 @@ pub enum Status {
 }
 
 impl Status {
-    ghost use Rattle.syncp.specs.Run.{code_of};
+    ghost use Rattle.syncp.specs.Statuses.{code_of};
 
     /// The number of the status.
     pub fn code(&self) -> u8
@@ -104,6 +110,7 @@ impl Status {
             Status::Found => 1,
             Status::Usage => 2,
             Status::Refused => 3,
+            Status::Limit => 4,
             Status::ReadFault => 5,
             Status::WriteFault => 6,
             Status::NoMemory => 7,

@@ -1,15 +1,21 @@
 // The top call.
-ghost use Rattle.std.specs.Prelude.{◌≡◌, ◌⊎◌, ◌↔◌, List, ℕ, true, false, Some, map, IfOk, string_bytes};
+ghost use Rattle.std.specs.Prelude.{◌≡◌, ◌≢◌, ◌⊎◌, ◌↔◌, List, ℕ, Some, None, map, IfOk, string_bytes};
 ghost use Rattle.std.specs.Io.KnownBytes.{IsAtEnd};
 ghost use Rattle.sp_base.specs.Causes.{Rose};
 ghost use Rattle.sp_base.specs.Moves.{Took, Gained};
-ghost use Rattle.std_text.specs.Framing.{Progress};
-ghost use Rattle.syncp.specs.Output.{IsStd, IsWithinLimit};
-ghost use Rattle.syncp.specs.Run.{Means, TellsOf, IsDone, takes_words};
+ghost use Rattle.syncp.specs.Modes.{mode_in, IsAccepted};
+ghost use Rattle.syncp.specs.Outcome.{Explains};
+ghost use Rattle.syncp.specs.Outcome as outcome;
+ghost use Rattle.syncp.specs.Output.{IsWithinLimit};
+ghost use Rattle.syncp.specs.Run.{Means, Leaves, TellsOf, IsDone};
+ghost use Rattle.syncp.specs.declared.mode.Mode.{Mode as ModeOf};
 
 use crate::analyse::analyse;
 use crate::fault_line::line_of;
+use crate::mode::{Mode, mode_of};
 use crate::outcome::{Fault, Outcome, Status};
+use crate::record_mode::record_alone;
+use crate::status::status_of;
 use sp_base::{Gate, Sink, Source, WriteFault, write_all};
 use std::alloc::Global;
 use std::sync::Wait;
@@ -21,11 +27,12 @@ const DEFAULT_SIZE: u8 = 3;
 /// The number of workers where the words name none.
 const DEFAULT_WORKERS: u8 = 4;
 
-/// Predicts races: reads the source to its end and writes the report to `out`, or the line of a fault to `err`.
+/// Reads the source to its end and writes to `out` what the mode makes of it: `predict` reads a trace and writes the
+/// report, `record` reads a script and writes the trace that is recorded. The line of a fault goes to `err`.
 ///
-/// The words are the program's name and `predict`; with any other words nothing is read or written. A refusal of the
-/// text comes at its first fault and before anything is written to `out`. The line on `err` is tried once, and a fault
-/// there changes no status.
+/// The words are the program's name and the mode; with any other words nothing is read or written. A refusal of the
+/// input comes at its first fault and before anything is written to `out`; in `record` the source is read to its end
+/// first. The line on `err` is tried once, and a fault there changes no status.
 pub fn run<R: Threads + Wait + Sync, S: Source, K: Sink, E: Sink, G: Gate>(
     rt: &R,
     alloc: Global,
@@ -39,41 +46,82 @@ pub fn run<R: Threads + Wait + Sync, S: Source, K: Sink, E: Sink, G: Gate>(
     ensures outcome { Took (S.left source.old) (S.left source.new) (λ input. IsWithinLimit input ×
         Gained (K.text out.old) (K.text out.new) (λ text.
         Gained (E.text err.old) (E.text err.new) (λ line.
-        Means (IsAtEnd (S.left source.new)) (Rose (E.faults err.old) (E.faults err.new)) result input text line))) }
+        Leaves (mode_in (map string_bytes words.now)) (IsAtEnd (S.left source.new)) (Rose (E.faults err.old) (E.faults err.new)) result input text line))) }
 
     // When a refusal comes.
-    ensures usage { (result ≡ Status.Usage) ↔ (takes_words (map string_bytes words.now) ≡ false) }
+    ensures usage { (result ≡ Status.Usage) ↔ (mode_in (map string_bytes words.now) ≡ None) }
     ensures read { result ≡ Status.ReadFault → Rose (S.faults source.old) (S.faults source.new) }
     ensures write { result ≡ Status.WriteFault → Rose (K.faults out.old) (K.faults out.new) }
 
-    // An input in the grammar is answered, unless the outside fails or memory runs out.
-    ensures complete { takes_words (map string_bytes words.now) ≡ true →
-        (all : List ℕ) (p : Progress) → S.left source.old ≡ Some all → IsStd all p →
+    // An input in the grammar of the mode is answered, unless the outside fails or memory runs out.
+    ensures complete { (mode : ModeOf) → mode_in (map string_bytes words.now) ≡ Some mode →
+        (all : List ℕ) → S.left source.old ≡ Some all → IsAccepted mode all →
         ¬ Rose (S.faults source.old) (S.faults source.new) → ¬ Rose (K.faults out.old) (K.faults out.new) →
         IsDone result ⊎ (result ≡ Status.NoMemory) }
 {
-    if !is_predict(words) {
-        return Status::Usage;
+    match mode_of(words) {
+        Some(mode) => run_in(rt, alloc, mode, source, out, err, gate),
+        None => Status::Usage,
     }
-    match analyse(rt, alloc, DEFAULT_SIZE, DEFAULT_WORKERS, source, out, gate) {
+}
+
+// Runs a mode, and writes the line of a fault.
+fn run_in<R: Threads + Sync, S: Source, K: Sink, E: Sink, G: Gate>(
+    rt: &R,
+    alloc: Global,
+    mode: Mode,
+    source: &mut S,
+    out: &mut K,
+    err: &mut E,
+    gate: &G,
+) -> Status
+    ensures outcome { Took (S.left source.old) (S.left source.new) (λ input. IsWithinLimit input ×
+        Gained (K.text out.old) (K.text out.new) (λ text.
+        Gained (E.text err.old) (E.text err.new) (λ line.
+        Means mode (IsAtEnd (S.left source.new)) (Rose (E.faults err.old) (E.faults err.new)) result input text line))) }
+    ensures usage { result ≢ Status.Usage }
+    ensures read { result ≡ Status.ReadFault → Rose (S.faults source.old) (S.faults source.new) }
+    ensures write { result ≡ Status.WriteFault → Rose (K.faults out.old) (K.faults out.new) }
+    ensures complete { (all : List ℕ) → S.left source.old ≡ Some all → IsAccepted mode all →
+        ¬ Rose (S.faults source.old) (S.faults source.new) → ¬ Rose (K.faults out.old) (K.faults out.new) →
+        IsDone result ⊎ (result ≡ Status.NoMemory) }
+{
+    match outcome_of(rt, alloc, mode, source, out, gate) {
         Outcome::Done { found } => { if found { Status::Found } else { Status::Clean } }
         Outcome::Refused(fault) => refuse(alloc, err, &fault),
     }
 }
 
-// Whether the words are the program's name and the mode.
-fn is_predict(words: &[String]) -> bool
-    ensures { result ≡ takes_words (map string_bytes words.now) }
+// What a mode comes to.
+fn outcome_of<R: Threads + Sync, S: Source, K: Sink, G: Gate>(
+    rt: &R,
+    alloc: Global,
+    mode: Mode,
+    source: &mut S,
+    out: &mut K,
+    gate: &G,
+) -> Outcome
+    ensures outcome { Took (S.left source.old) (S.left source.new) (λ input. IsWithinLimit input ×
+        Gained (K.text out.old) (K.text out.new) (Explains mode (IsAtEnd (S.left source.new)) result input)) }
+    ensures ended { outcome.IsDone result → IsAtEnd (S.left source.new) }
+    ensures read { result ≡ Outcome.Refused Fault.Read → Rose (S.faults source.old) (S.faults source.new) }
+    ensures write { result ≡ Outcome.Refused Fault.Write → Rose (K.faults out.old) (K.faults out.new) }
+    ensures complete { (all : List ℕ) → S.left source.old ≡ Some all → IsAccepted mode all →
+        ¬ Rose (S.faults source.old) (S.faults source.new) → ¬ Rose (K.faults out.old) (K.faults out.new) →
+        outcome.IsDone result ⊎ (result ≡ Outcome.Refused Fault.OutOfMemory) }
 {
-    match words {
-        [_, mode] => mode.as_str() == "predict",
-        _ => false,
+    match mode {
+        Mode::Predict => analyse(rt, alloc, DEFAULT_SIZE, DEFAULT_WORKERS, source, out, gate),
+        Mode::Record => record_alone(alloc, source, out),
     }
 }
 
 // Writes the line of a fault, and answers its status.
 fn refuse<E: Sink>(alloc: Global, err: &mut E, fault: &Fault) -> Status
-    ensures { Gained (E.text err.old) (E.text err.new) (TellsOf (Rose (E.faults err.old) (E.faults err.new)) fault.now result) }
+    ensures told { Gained (E.text err.old) (E.text err.new) (TellsOf (Rose (E.faults err.old) (E.faults err.new)) fault.now result) }
+    ensures usage { result ≢ Status.Usage }
+    ensures read { result ≡ Status.ReadFault → fault.now ≡ Fault.Read }
+    ensures write { result ≡ Status.WriteFault → fault.now ≡ Fault.Write }
 {
     let Ok(line) = line_of(alloc, fault) else {
         return Status::NoMemory;
@@ -81,10 +129,5 @@ fn refuse<E: Sink>(alloc: Global, err: &mut E, fault: &Fault) -> Status
     if let Err(WriteFault::OutOfMemory) = write_all(err, &line) {
         return Status::NoMemory;
     }
-    match fault {
-        Fault::Text { .. } => Status::Refused,
-        Fault::Read => Status::ReadFault,
-        Fault::Write => Status::WriteFault,
-        Fault::OutOfMemory => Status::NoMemory,
-    }
+    status_of(fault)
 }

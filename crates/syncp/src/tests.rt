@@ -9,6 +9,9 @@ use std::sync::Wait;
 use std::test::Fail;
 use std::thread::Threads;
 
+// Two bare writes.
+const TWO_WRITES: &[u8] = b"T0|w(X)|1\nT1|w(X)|2\n";
+
 // Words of the command line.
 fn words(alloc: Global, texts: &[&str]) -> Result<Vec<String>, AllocError> {
     let mut words = Vec::new(alloc);
@@ -32,12 +35,12 @@ fn sink(alloc: Global, take: u32, fails: &[u32]) -> Result<MemSink, AllocError>
     Ok(MemSink::new(alloc, take, fails.to_vec(alloc)?))
 }
 
-// What a run is wanted to leave.
+/// What a run is wanted to leave.
 #[derive(Clone, Copy)]
-struct Left<'a> {
-    out: &'a [u8],
-    err: &'a [u8],
-    code: u8,
+pub(crate) struct Left<'a> {
+    pub out: &'a [u8],
+    pub err: &'a [u8],
+    pub code: u8,
 }
 
 // What a run leaves for a text that is refused with this line.
@@ -54,17 +57,18 @@ fn is_left(status: Status, out: &MemSink, err: &MemSink, left: &Left) -> bool {
     status.code() == left.code && out.text() == left.out && err.text() == left.err
 }
 
-// Whether `predict` leaves this for a text in pieces, where nothing of the outside fails.
-fn leaves<R: Threads + Wait + Sync>(
+/// Whether a mode leaves this for a text in pieces, where nothing of the outside fails.
+pub(crate) fn leaves<R: Threads + Wait + Sync>(
     rt: &R,
     alloc: Global,
+    mode: &str,
     text: &[u8],
     piece: u32,
     left: &Left,
 ) -> Result<bool, AllocError>
     requires { 0 < piece }
 {
-    let words = words(alloc, &["syncp", "predict"])?;
+    let words = words(alloc, &["syncp", mode])?;
     let mut source = source(alloc, text, piece, &[])?;
     let mut out = sink(alloc, 1_000, &[])?;
     let mut err = sink(alloc, 1_000, &[])?;
@@ -159,7 +163,7 @@ fn reports_of_traces(rt: HostRuntime) -> Result<(), Fail> {
         };
         for piece in [1, 3, 1_000] {
             assert!(rt;
-                leaves(&rt, alloc, text.as_bytes(), piece, &left)?,
+                leaves(&rt, alloc, "predict", text.as_bytes(), piece, &left)?,
                 "{case}"
             );
         }
@@ -251,7 +255,7 @@ fn refused_traces(rt: HostRuntime) -> Result<(), Fail> {
         };
         for piece in [1, 3, 1_000] {
             assert!(rt;
-                leaves(&rt, alloc, text.as_bytes(), piece, &left)?,
+                leaves(&rt, alloc, "predict", text.as_bytes(), piece, &left)?,
                 "{case}"
             );
         }
@@ -259,8 +263,8 @@ fn refused_traces(rt: HostRuntime) -> Result<(), Fail> {
     Ok(())
 }
 
-// So many copies of a text.
-fn repeated(alloc: Global, text: &[u8], count: u32) -> Result<Vec<u8>, AllocError> {
+/// So many copies of a text.
+pub(crate) fn repeated(alloc: Global, text: &[u8], count: u32) -> Result<Vec<u8>, AllocError> {
     let mut all = Vec::new(alloc);
     for _ in 0..count {
         all.extend_from_slice(text)?;
@@ -285,13 +289,13 @@ fn traces_past_a_limit(rt: HostRuntime) -> Result<(), Fail> {
     let mut name = repeated(alloc, b"T", 256)?;
     name.extend_from_slice(b"|w(X)\n")?;
     assert!(rt;
-        leaves(&rt, alloc, &name, 1_000, &first)?,
+        leaves(&rt, alloc, "predict", &name, 1_000, &first)?,
         "a name of 256 bytes"
     );
     let mut line = repeated(alloc, b"T0|w(X)|", 1)?;
     line.extend_from_slice(&repeated(alloc, b"0", 4_089)?)?;
     assert!(rt;
-        leaves(&rt, alloc, &line, 1_000, &first)?,
+        leaves(&rt, alloc, "predict", &line, 1_000, &first)?,
         "a line of 4,097 bytes"
     );
     Ok(())
@@ -302,7 +306,7 @@ fn threads_past_the_limit(rt: HostRuntime) -> Result<(), Fail> {
     let alloc = rt.alloc();
     let last = refused(b"line 65 fault 4 UnknownOperation\n");
     let text = threads(alloc, 65)?;
-    assert!(rt; leaves(&rt, alloc, &text, 1_000, &last)?);
+    assert!(rt; leaves(&rt, alloc, "predict", &text, 1_000, &last)?);
     Ok(())
 }
 
@@ -311,7 +315,7 @@ fn events_past_the_limit(rt: HostRuntime) -> Result<(), Fail> {
     let alloc = rt.alloc();
     let last = refused(b"line 65537 fault 4 UnknownOperation\n");
     let text = repeated(alloc, b"T0|r(X)\n", 65_537)?;
-    assert!(rt; leaves(&rt, alloc, &text, 1_000, &last)?);
+    assert!(rt; leaves(&rt, alloc, "predict", &text, 1_000, &last)?);
     Ok(())
 }
 
@@ -339,22 +343,33 @@ fn bytes_past_the_limit(rt: HostRuntime) -> Result<(), Fail> {
 fn a_holder_whose_name_is_no_text(rt: HostRuntime) -> Result<(), Fail> {
     let alloc = rt.alloc();
     let left = refused(b"line 2 fault 11 LockHeld \xff \x00\n");
-    assert!(rt; leaves(&rt, alloc, b"\xff \x00|acq(L)\nT1|acq(L)\n", 3, &left)?);
+    assert!(rt;
+        leaves(
+            &rt,
+            alloc,
+            "predict",
+            b"\xff \x00|acq(L)\nT1|acq(L)\n",
+            3,
+            &left
+        )?
+    );
     Ok(())
 }
 
-// Whether `predict` leaves this for two bare writes in pieces of 4 bytes, where the listed calls of the outside fail
-// and the sinks take one byte a write.
-fn leaves_failing<R: Threads + Wait + Sync>(
+/// Whether a mode leaves this for a text in pieces of 4 bytes, where the listed calls of the outside fail and the sinks
+/// take one byte a write.
+pub(crate) fn leaves_failing<R: Threads + Wait + Sync>(
     rt: &R,
     alloc: Global,
+    mode: &str,
+    text: &[u8],
     reads: &[u32],
     writes: &[u32],
     told: &[u32],
     left: &Left,
 ) -> Result<bool, AllocError> {
-    let words = words(alloc, &["syncp", "predict"])?;
-    let mut source = source(alloc, b"T0|w(X)|1\nT1|w(X)|2\n", 4, reads)?;
+    let words = words(alloc, &["syncp", mode])?;
+    let mut source = source(alloc, text, 4, reads)?;
     let mut out = sink(alloc, 1, writes)?;
     let mut err = sink(alloc, 1, told)?;
     let status = run(
@@ -382,7 +397,16 @@ fn faults_of_the_source(rt: HostRuntime) -> Result<(), Fail> {
         ("after the text", 6),
     ] {
         assert!(rt;
-            leaves_failing(&rt, rt.alloc(), &[call], &[], &[], &left)?,
+            leaves_failing(
+                &rt,
+                rt.alloc(),
+                "predict",
+                TWO_WRITES,
+                &[call],
+                &[],
+                &[],
+                &left
+            )?,
             "{case}"
         );
     }
@@ -398,7 +422,16 @@ fn faults_of_the_output(rt: HostRuntime) -> Result<(), Fail> {
             code: 6,
         };
         assert!(rt;
-            leaves_failing(&rt, rt.alloc(), &[], &[call], &[], &left)?,
+            leaves_failing(
+                &rt,
+                rt.alloc(),
+                "predict",
+                TWO_WRITES,
+                &[],
+                &[call],
+                &[],
+                &left
+            )?,
             "{case}"
         );
     }
@@ -417,7 +450,16 @@ fn faults_of_the_line(rt: HostRuntime) -> Result<(), Fail> {
             code: 5,
         };
         assert!(rt;
-            leaves_failing(&rt, rt.alloc(), &[2], &[], &[call], &left)?,
+            leaves_failing(
+                &rt,
+                rt.alloc(),
+                "predict",
+                TWO_WRITES,
+                &[2],
+                &[],
+                &[call],
+                &left
+            )?,
             "{case}"
         );
     }
@@ -452,7 +494,7 @@ fn is_usage<R: Threads + Wait + Sync>(
     texts: &[&str],
 ) -> Result<bool, AllocError> {
     let words = words(alloc, texts)?;
-    let mut source = source(alloc, b"T0|w(X)|1\nT1|w(X)|2\n", 4, &[])?;
+    let mut source = source(alloc, TWO_WRITES, 4, &[])?;
     let mut out = sink(alloc, 1, &[])?;
     let mut err = sink(alloc, 1, &[])?;
     let status = run(
@@ -477,7 +519,7 @@ fn words_without_a_reading(rt: HostRuntime) -> Result<(), Fail> {
     let alloc = rt.alloc();
     assert!(rt; is_usage(&rt, alloc, &[])?, "no words");
     assert!(rt; is_usage(&rt, alloc, &["syncp"])?, "no mode");
-    assert!(rt; is_usage(&rt, alloc, &["syncp", "record"])?, "another mode");
+    assert!(rt; is_usage(&rt, alloc, &["syncp", "replay"])?, "another mode");
     assert!(rt;
         is_usage(&rt, alloc, &["syncp", "predicts"])?,
         "a longer mode"

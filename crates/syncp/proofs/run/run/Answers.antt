@@ -1,13 +1,11 @@
-use Rattle.syncp.proofs.Ran.{refused_means, only_memory}
+use Rattle.std.proofs.Common.{◌≡◌, None, [], map, string_bytes, arith}
+use Rattle.std.proofs.KnownBytes.{Appends-nil, Consumes-nil}
+use Rattle.syncp.specs.Modes.{mode_in}
+use Rattle.syncp.proofs.Ran.{no_mode}
 use Rattle.syncp.proofs.run.run.Goals as goal
 
-pub returns-in-Refused-clause-outcome : goal.returns-in-Refused-clause-outcome
-returns-in-Refused-clause-outcome g c =
-    let read = c.in-Refused.ensures.outcome in
-    let told = c.refuse.ensures in
-    (read.0, read.1, (read.2.0, (read.2.1.0, read.2.1.1, (told.0, told.1, refused_means _ _ c.in-Refused.fault c.refuse.result read.0 read.2.1.0 told.0 read.2.1.2 told.2))))
-
-pub returns-in-Refused-clause-complete : goal.returns-in-Refused-clause-complete
-returns-in-Refused-clause-complete g c = λ words all p left std kept_source kept_out.
-    let told = c.refuse.ensures in
-    only_memory _ c.in-Refused.fault c.refuse.result told.0 told.2 (c.in-Refused.ensures.complete all p left std kept_source kept_out)
+pub returns-in-None-clause-outcome : goal.returns-in-None-clause-outcome
+returns-in-None-clause-outcome g c =
+    let named = c.mode_of.ensures in
+    let none : mode_in (map string_bytes c.args.words.now) ≡ None = cc in
+    ([], Consumes-nil _, (omega arith, ([], Appends-nil _, ([], Appends-nil _, no_mode _ _ _ none))))

@@ -1,0 +1,89 @@
+// The mode `record`.
+ghost use Rattle.std.specs.Prelude.{◌≡◌, ◌≤◌, ◌⊎◌, ℕ, List, Some, length, MatchResult, OnOk, IsErrOf};
+ghost use Rattle.std.specs.Io.KnownBytes.{IsAtEnd};
+ghost use Rattle.sp_base.specs.Causes.{Rose};
+ghost use Rattle.sp_base.specs.Moves.{Took, Gained};
+ghost use Rattle.sp_base.specs.declared.limits.TheConstants.{MAX_INPUT};
+ghost use Rattle.script_machine.specs.ScriptText.{Scripts};
+ghost use Rattle.syncp.specs.Modes.{IsAccepted};
+ghost use Rattle.syncp.specs.Outcome.{Explains, FailsToRead, IsDone};
+ghost use Rattle.syncp.specs.Output.{IsWithinLimit};
+ghost use Rattle.syncp.specs.Recorded.{IsRecordOf};
+
+use crate::mode::Mode;
+use crate::outcome::{Fault, Outcome};
+use crate::recorded_text::recorded_text;
+use crate::whole_text::whole_text;
+use script_machine::laws::exclusive_law;
+use script_machine::{Script, ScriptError};
+use sp_base::{Sink, Source, WriteFault, write_all};
+use std::alloc::Global;
+
+// The script of a text.
+fn script_of(alloc: Global, text: &[u8]) -> Result<Script, Fault>
+    requires { length text.now ≤ MAX_INPUT }
+    ensures script { MatchResult result (λ script. Scripts text.now script) (λ fault. FailsToRead Mode.Record (Unit {0}) fault text.now) }
+    ensures read { IsErrOf result Fault.Read → ⊥ }
+{
+    match Script::read(alloc, text) {
+        Ok(script) => Ok(script),
+        Err(ScriptError::Fault(fault)) => Err(Fault::Script(fault)),
+        Err(ScriptError::OutOfMemory) => Err(Fault::OutOfMemory),
+    }
+}
+
+// The text of what is recorded of a text.
+fn record_of(alloc: Global, text: &[u8]) -> Result<Vec<u8>, Fault>
+    requires { length text.now ≤ MAX_INPUT }
+    ensures recorded { MatchResult result (λ recorded. IsRecordOf text.now recorded.items) (λ fault. FailsToRead Mode.Record (Unit {0}) fault text.now) }
+    ensures read { IsErrOf result Fault.Read → ⊥ }
+{
+    let script = script_of(alloc, text)?;
+    let Ok(recorded) = recorded_text(alloc, &script) else {
+        return Err(Fault::OutOfMemory);
+    };
+    Ok(recorded)
+}
+
+// Reads the source to its end, and answers the text of what is recorded.
+fn record_source<S: Source>(alloc: Global, source: &mut S) -> Result<Vec<u8>, Fault>
+    ensures read { Took (S.left source.old) (S.left source.new) (λ input. IsWithinLimit input ×
+        MatchResult result (λ recorded. IsRecordOf input recorded.items) (λ fault. FailsToRead Mode.Record (IsAtEnd (S.left source.new)) fault input)) }
+    ensures ended { OnOk result (IsAtEnd (S.left source.new)) }
+    ensures cause { IsErrOf result Fault.Read → Rose (S.faults source.old) (S.faults source.new) }
+{
+    let text = whole_text(alloc, source)?;
+    record_of(alloc, &text)
+}
+
+/// Reads a script and writes the trace of the run that steps the lowest thread that can step, until none can.
+///
+/// The source is read to its end before its text is looked at. A refusal of the text comes before anything is written.
+/// `Read` and `Write` come only where the count of faults of the source or of the sink rose; after `Write`, and after want
+/// of memory, a front of the trace's text is written.
+pub fn record_alone<S: Source, K: Sink>(alloc: Global, source: &mut S, out: &mut K) -> Outcome
+    // What was read and written explains the outcome.
+    ensures outcome { Took (S.left source.old) (S.left source.new) (λ input. IsWithinLimit input ×
+        Gained (K.text out.old) (K.text out.new) (Explains Mode.Record (IsAtEnd (S.left source.new)) result input)) }
+    ensures ended { IsDone result → IsAtEnd (S.left source.new) }
+
+    // A fault of the outside comes only where a count of faults rose.
+    ensures read { result ≡ Outcome.Refused Fault.Read → Rose (S.faults source.old) (S.faults source.new) }
+    ensures write { result ≡ Outcome.Refused Fault.Write → Rose (K.faults out.old) (K.faults out.new) }
+
+    // A script within the limit of an input is recorded, unless the outside fails or memory runs out.
+    ensures complete { (all : List ℕ) → S.left source.old ≡ Some all → IsAccepted Mode.Record all →
+        ¬ Rose (S.faults source.old) (S.faults source.new) → ¬ Rose (K.faults out.old) (K.faults out.new) →
+        IsDone result ⊎ (result ≡ Outcome.Refused Fault.OutOfMemory) }
+{
+    exclusive_law();
+    let recorded = match record_source(alloc, source) {
+        Ok(recorded) => recorded,
+        Err(fault) => return Outcome::Refused(fault),
+    };
+    match write_all(out, &recorded) {
+        Ok(()) => Outcome::Done { found: false },
+        Err(WriteFault::Failed) => Outcome::Refused(Fault::Write),
+        Err(WriteFault::OutOfMemory) => Outcome::Refused(Fault::OutOfMemory),
+    }
+}
