@@ -1,6 +1,6 @@
 -- The name of the thread that holds a lock is among the names, before and after the line that wants the lock.
-use Rattle.std.proofs.Common.{◌≡◌, ℕ, ◌<◌, Bool, true, false, cond, List, [], ◌∷◌, ◌++◌, length, Some, Err, refl, ap, subst, ◌∙◌, arith, length-append}
-use Rattle.std.specs.Prelude.{slice_get, unwrap_or, Result}
+use Rattle.std.proofs.Common.{◌≡◌, ℕ, ◌<◌, ◌≤◌, Bool, true, false, cond, List, [], ◌∷◌, ◌++◌, length, Some, Err, refl, sym, ap, subst, ◌∙◌, arith, length-append}
+use Rattle.std.specs.Prelude.{slice_get, Result}
 use Rattle.std.specs.Option.{option_map}
 use Rattle.trace_laws.specs.Event.{Event}
 use Rattle.trace_laws.specs.declared.event.Op.{Op}
@@ -9,78 +9,127 @@ use Rattle.trace_laws.specs.declared.builder.LawFault.{LawFault}
 use Rattle.trace_laws.specs.declared.builder.LawFault.TheVariants as law
 use Rattle.trace_laws.specs.Names.{NameLists, is_numbered, with_name}
 use Rattle.trace_laws.specs.Trace.{thread_at}
+use Rattle.trace_laws.specs.Traces.{AreNamedBelow}
 use Rattle.trace_laws.specs.Faults.{Built, HoldsNow, OperationFault, IsRefusedFor}
 use Rattle.trace_laws.proofs.Places.{event_of, slice_get-append_left}
-use Rattle.std_text.specs.Plain.{ArePlain}
 use Rattle.std_text.specs.Law.{kind_of}
-use Rattle.std_text.specs.Refusal.{Refusal, LineFault, refusal_of, holder_name, IsHolderGiven}
+use Rattle.std_text.specs.declared.fields.Action.{Action}
+use Rattle.std_text.specs.declared.fields.Action.TheVariants as action
+use Rattle.std_text.specs.Fields.{Parts}
+use Rattle.std_text.specs.Meaning.{Reading, refused, with_thread, with_operand, with_names}
+use Rattle.std_text.specs.Refusal.{Refusal, LineFault, refusal_of, holder_name, IsHolderGiven, NamesNoHolder}
+use Rattle.trace_laws.specs.declared.names.NameFault.{NameFault}
+use Rattle.trace_laws.specs.declared.names.NameFault.TheVariants as name
+use Rattle.std_text.specs.Told.{Failed}
+use Rattle.std_text.specs.declared.fault.ReadFault.{ReadFault}
+use Rattle.std_text.specs.declared.fault.ReadFault.TheVariants.{Text, OutOfMemory}
 use Rattle.std_text.specs.declared.fault.StdKind.{StdKind}
 use Rattle.std_text.specs.declared.fault.StdKind.TheVariants.{LockHeld}
 
 -- a thread that holds a lock is below the number of threads
-holder_below : (events : List Event) (threads u l : ℕ) → ArePlain events threads → HoldsNow events u l → u < threads
-holder_below events threads u l plain h =
+holder_below : (events : List Event) (threads u l : ℕ) → AreNamedBelow events threads → HoldsNow events u l → u < threads
+holder_below events threads u l named h =
     let e = event_of events h.since (Acquire l) h.acquired.op in
     let is : thread_at events h.since ≡ Some e.0.thread = ap (option_map (λ (x : Event). x.thread)) e.1 in
-    let named = h.acquired.thread in
+    let thread = h.acquired.thread in
     let same : e.0.thread ≡ u = cc in
     let P : ℕ → Type 0 = λ n. n < threads in
-    subst P same (plain h.since e.0 e.1).0
+    subst P same (named h.since e.0 e.1).0
 
--- the holder that stands against an acquire has its number
-module _ (events : List Event) (names : NameLists) (t : ℕ) (plain : ArePlain events (length names.threads)) where
-  -- the own thread, which holds the lock
-  own_given : (o : Op) → OperationFault events t o law.Reentrant → t < length names.threads
-  own_given (Acquire l) h = holder_below events (length names.threads) t l plain h
-  own_given (Release l) h = absurd h
-  own_given (Read x) h = absurd h
-  own_given (Write x) h = absurd h
-  own_given (Fork u) h = absurd h
-  own_given (Join u) h = absurd h
-
-  -- another thread, which holds the lock
-  other_given : (o : Op) (u : ℕ) → OperationFault events t o (law.LockHeld u) → u < length names.threads
-  other_given (Acquire l) u h = holder_below events (length names.threads) u l plain h.1
-  other_given (Release l) u h = absurd h
-  other_given (Read x) u h = absurd h
-  other_given (Write x) u h = absurd h
-  other_given (Fork v) u h = absurd h
-  other_given (Join v) u h = absurd h
+-- the holder that stands against an operation has its number
+other_given : (events : List Event) (threads t : ℕ) (o : Op) (u : ℕ) → AreNamedBelow events threads → OperationFault events t o (law.LockHeld u) → u < threads
+other_given events threads t (Acquire l) u named h = holder_below events threads u l named h.1
+other_given events threads t (Release l) u named h = absurd h
+other_given events threads t (Read x) u named h = absurd h
+other_given events threads t (Write x) u named h = absurd h
+other_given events threads t (Fork v) u named h = absurd h
+other_given events threads t (Join v) u named h = absurd h
 
 -- a refused event names a holder that has its number
-pub holder_given : (built : Built) (names : NameLists) (e : Event) (f : LawFault) → ArePlain built.events (length names.threads) → IsRefusedFor built e f → IsHolderGiven names (kind_of e.thread f)
-holder_given built names e law.Reentrant plain h = own_given built.events names e.thread plain e.op h.1.1
-holder_given built names e (law.LockHeld u) plain h = other_given built.events names e.thread plain e.op u h.1.1
-holder_given built names e law.NotHeld plain h = tt
-holder_given built names e law.Full plain h = tt
-holder_given built names e law.AfterJoin plain h = tt
-holder_given built names e law.SelfThread plain h = tt
-holder_given built names e law.ForkTwice plain h = tt
-holder_given built names e law.ForkLate plain h = tt
+pub holder_given : (built : Built) (names : NameLists) (e : Event) (f : LawFault) → AreNamedBelow built.events (length names.threads) → IsRefusedFor built e f → IsHolderGiven names (kind_of f)
+holder_given built names e (law.LockHeld u) named h = other_given built.events (length names.threads) e.thread e.op u named h.1.1
+holder_given built names e law.Reentrant named h = tt
+holder_given built names e law.NotHeld named h = tt
+holder_given built names e law.Full named h = tt
+holder_given built names e law.AfterJoin named h = tt
+holder_given built names e law.SelfThread named h = tt
+holder_given built names e law.ForkTwice named h = tt
+holder_given built names e law.ForkLate named h = tt
 
--- a number that is given out keeps its name when one more name comes
-module _ (names : List (List ℕ)) (name : List ℕ) (n : ℕ) (given : n < length names) where
-  -- its name
-  name_kept : (b : Bool) → slice_get (cond b names (names ++ name ∷ [])) n ≡ slice_get names n
-  name_kept true = refl
-  name_kept false = slice_get-append_left names (name ∷ []) n given
+-- ---- names that stay
 
-  -- and that it is given out
-  given_kept : (b : Bool) → n < length (cond b names (names ++ name ∷ []))
-  given_kept true = given
-  given_kept false = omega (arith, length-append names (name ∷ []))
+-- numbers that are given out keep their names
+pub record Keeps (old new : List (List ℕ)) : Type 0 where
+  pub size : length old ≤ length new
+  pub name : (n : ℕ) → n < length old → slice_get new n ≡ slice_get old n
 
--- the holder keeps its number and its name when the names of the line come
-pub holder_kept : (old new : NameLists) (thread : List ℕ) (kind : StdKind) → new.threads ≡ with_name old.threads thread → IsHolderGiven old kind → (holder_name old kind ≡ holder_name new kind) × IsHolderGiven new kind
-holder_kept old new thread (LockHeld t) grown given =
-    let test = is_numbered old.threads thread in
-    let same : slice_get old.threads t ≡ slice_get new.threads t = rw (grown, name_kept old.threads thread t given test) refl in
-    (ap (λ o. unwrap_or o []) same, rw grown (given_kept old.threads thread t given test))
-holder_kept old new thread _ grown given = (refl, tt)
+-- where nothing comes
+keeps_all : (names : List (List ℕ)) → Keeps names names
+keeps_all names = record { size = omega arith; name = λ n within. refl }
+
+-- where one more name comes
+keeps_name : (names : List (List ℕ)) (name : List ℕ) → Keeps names (with_name names name)
+keeps_name names name = by (is_numbered names name)
+  where
+    by : (b : Bool) → Keeps names (cond b names (names ++ name ∷ []))
+    by true = keeps_all names
+    by false = record { size = omega (arith, length-append names (name ∷ [])); name = λ n within. slice_get-append_left names (name ∷ []) n within }
+
+-- where more come after more
+keeps_both : (first second third : List (List ℕ)) → Keeps first second → Keeps second third → Keeps first third
+keeps_both first second third a b =
+    let more : length first ≤ length second = a.size in
+    let again : length second ≤ length third = b.size in
+    record { size = omega arith; name = λ n within. b.name n (omega arith) ∙ a.name n within }
+
+-- where the name of an operand comes
+pub keeps_operand : (names : NameLists) (a : Action) (operand : List ℕ) → Keeps names.threads (with_operand names a operand).threads
+keeps_operand names action.Read operand = keeps_all names.threads
+keeps_operand names action.Write operand = keeps_all names.threads
+keeps_operand names action.Acquire operand = keeps_all names.threads
+keeps_operand names action.Release operand = keeps_all names.threads
+keeps_operand names action.Fork operand = keeps_name names.threads operand
+keeps_operand names action.Join operand = keeps_name names.threads operand
+
+-- where those of a line come
+pub keeps_names : (names : NameLists) (p : Parts) → Keeps names.threads (with_names names p).threads
+keeps_names names p = keeps_both names.threads (with_thread names p.thread).threads (with_names names p).threads (keeps_name names.threads p.thread) (keeps_operand (with_thread names p.thread) p.action p.operand)
+
+-- where the name of a thread comes
+pub keeps_thread : (names : NameLists) (thread : List ℕ) → Keeps names.threads (with_thread names thread).threads
+keeps_thread names thread = keeps_name names.threads thread
+
+-- the holder keeps its number and its name
+holder_kept : (old new : NameLists) (kind : StdKind) → Keeps old.threads new.threads → IsHolderGiven old kind → (holder_name old kind ≡ holder_name new kind) × IsHolderGiven new kind
+holder_kept old new (LockHeld t) keeps given =
+    let within : t < length old.threads = given in
+    let more : length old.threads ≤ length new.threads = keeps.size in
+    let same = keeps.name t given in
+    (rw same refl, omega arith)
+holder_kept old new _ keeps given = (refl, tt)
 
 -- so the refusal is the same with the names after the line
-pub refusal_kept : {A : Type 0} (read : Result A Refusal) (old new : NameLists) (thread : List ℕ) (f : LineFault) → new.threads ≡ with_name old.threads thread → IsHolderGiven old f.kind
+pub refusal_kept : {A : Type 0} (read : Result A Refusal) (old new : NameLists) (f : LineFault) → Keeps old.threads new.threads → IsHolderGiven old f.kind
     → read ≡ Err (refusal_of old f) → (read ≡ Err (refusal_of new f)) × IsHolderGiven new f.kind
-refusal_kept read old new thread f grown given is =
-    let kept = holder_kept old new thread f.kind grown given in
+refusal_kept read old new f keeps given is =
+    let kept = holder_kept old new f.kind keeps given in
     (is ∙ ap (λ h. Err (record { line = f.line; kind = f.kind; holder = h })) kept.0, kept.1)
+
+-- a kind that names no holder has no name
+no_name : (names : NameLists) (kind : StdKind) → NamesNoHolder kind → (holder_name names kind ≡ []) × IsHolderGiven names kind
+no_name names (LockHeld t) none = absurd none
+no_name names _ none = (refl, tt)
+
+-- so its refusal is the same with all names
+pub plain_refusal : {A : Type 0} (read : Result A Refusal) (r : Reading) (names : NameLists) (kind : StdKind) → NamesNoHolder kind → read ≡ refused r kind
+    → (read ≡ Err (refusal_of names (record { line = r.line; kind = kind }))) × IsHolderGiven names kind
+plain_refusal read r names kind none is =
+    let old = no_name r.names kind none in
+    let new = no_name names kind none in
+    (is ∙ ap (λ h. Err (record { line = r.line; kind = kind; holder = h })) (old.0 ∙ sym new.0), new.1)
+
+-- a name that has no number makes the code fail, for want of room or of memory
+pub name_failed : {A : Type 0} (fault : NameFault) (e : ReadFault) (names : NameLists) (f : LineFault) (read : Result A Refusal) → (fault ≡ name.Full → e ≡ Text f) → (fault ≡ name.OutOfMemory → e ≡ OutOfMemory)
+    → (fault ≡ name.Full → (read ≡ Err (refusal_of names f)) × IsHolderGiven names f.kind) → Failed e names read
+name_failed name.Full e names f read full memory h = rw (full refl) (h refl)
+name_failed name.OutOfMemory e names f read full memory h = rw (memory refl) tt

@@ -8,7 +8,7 @@ use Rattle.trace_laws.specs.declared.event.Op.TheVariants.{Read, Write, Acquire,
 use Rattle.trace_laws.specs.Trace.{thread_at, op_at, Holds, LockLaw, Lawful}
 use Rattle.trace_laws.proofs.Places.{slice_get-append_left, slice_get-append_seam}
 use Rattle.std_text.specs.Law.{Tells}
-use Rattle.std_text.proofs.LawLemmas.{tells_none, tells_push}
+use Rattle.std_text.proofs.HolderLemmas.{tells_none, tells_push}
 
 -- a trace, and the events behind it
 module _ (front more : List Event) where

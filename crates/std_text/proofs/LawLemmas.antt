@@ -1,140 +1,188 @@
--- The law of locks, as computed and as defined.
-use Rattle.std.proofs.Common.{◌≡◌, ◌≢◌, ℕ, ◌<◌, List, [], ◌∷◌, ◌++◌, length, Option, Some, None, ◌⊎◌, inl, inr, refl, ap, subst, ◌∙◌, arith, eq-eqb}
-use Rattle.std.specs.Prelude.{◌↔◌}
+-- The law of an event, as computed and as defined.
+use Rattle.std.proofs.Common.{◌≡◌, ◌≢◌, ℕ, suc, ◌<◌, Bool, true, false, ◌||◌, ◌==◌, cond, List, [], ◌∷◌, length, Option, Some, None, ◌⊎◌, inl, inr, refl, sym, ap, subst, ◌∙◌, eq-eqb, eqb-true, true≢false}
+use Rattle.std.specs.Prelude.{slice_get}
+use Rattle.std.specs.List.{list_any}
 use Rattle.std.proofs.lemmas.Bool.{cases_eq, ne_eqb}
+use Rattle.std.proofs.lemmas.Option.{slice_get_within}
+use Rattle.std.proofs.lemmas.Map.Keys.{any_passes_from_place}
 use Rattle.trace_laws.specs.Event.{Event}
 use Rattle.trace_laws.specs.declared.event.Op.{Op}
 use Rattle.trace_laws.specs.declared.event.Op.TheVariants.{Read, Write, Acquire, Release, Fork, Join}
 use Rattle.trace_laws.specs.declared.builder.LawFault.{LawFault}
 use Rattle.trace_laws.specs.declared.builder.LawFault.TheVariants as law
-use Rattle.trace_laws.specs.Trace.{LockLaw, MayFollow}
-use Rattle.trace_laws.specs.Faults.{HoldsNow, OperationFault, BreaksFirst}
-use Rattle.trace_laws.proofs.Growing.{hold_cases, hold_keeps, hold_acquires}
-use Rattle.std_text.specs.Plain.{IsPlain, ArePlain}
-use Rattle.std_text.specs.Law.{held_after, holder_from, holder, acquire_fault, release_fault, law_fault, kind_of, Tells}
-use Rattle.std_text.proofs.PlainLemmas.{plain_no_join}
+use Rattle.trace_laws.specs.Trace.{IsJoined, IsForked, HasStarted}
+use Rattle.trace_laws.specs.Faults.{Built, Judges, OperationFault, BreaksFirst, IsRefusedFor}
+use Rattle.trace_laws.proofs.Places.{event_of, op_from_event, thread_from_event, mapped_from}
+use Rattle.std_text.specs.Law.{holder, Tells, is_fork_of, is_join_of, is_forked, is_joined, has_started, acquire_fault, release_fault, fork_fault, operation_fault, IsFirstBroken, ComputesLaws}
 
--- no thread
-abbrev nobody : Option ℕ
-nobody = None
+-- ---- what stands before an event
 
--- the holder after one event more
-holder_push : (l : ℕ) (held : Option ℕ) (events : List Event) (e : Event) → holder_from l held (events ++ e ∷ []) ≡ held_after l (holder_from l held events) e.thread e.op
-holder_push l held [] e = refl
-holder_push l held (d ∷ events) e = holder_push l (held_after l held d.thread d.op) events e
+-- an element that passes a test, and its place
+abbrev Passes : {X : Type 0} → (X → Bool) → List X → Type 0
+Passes {X} test xs = (i : ℕ) × (x : X) × (slice_get xs i ≡ Some x) × (test x ≡ true)
 
--- nobody holds a lock at first
-pub tells_none : Tells []
-tells_none l t = (λ h. cc, λ h. absurd (let before = h.before in omega arith))
+-- the first element passes, or one of the others
+passes_more : {X : Type 0} (test : X → Bool) (x : X) (xs : List X) (b : Bool) → test x ≡ b → (b || list_any test xs) ≡ true → (list_any test xs ≡ true → Passes test xs) → Passes test (x ∷ xs)
+passes_more test x xs true is h more = (0, x, refl, is)
+passes_more test x xs false is h more = let m = more h in (suc m.0, m.1, m.2, m.3)
 
--- one event more
-module _ (trace : List Event) (e : Event) (meets : LockLaw trace ◌<◌ (length trace) e.thread e.op) (tells : Tells trace) (l t : ℕ) where
-  -- an event that neither acquires nor releases the lock leaves its holder
-  stays : (e.op ≡ Acquire l → ⊥) → (e.op ≡ Release l → ⊥) → (holder trace l ≡ Some t) ↔ HoldsNow (trace ++ e ∷ []) t l
-  stays no_acquire no_release = (λ h. hold_keeps trace e t l ((tells l t).0 h) (λ same releases. no_release releases), λ h. from (hold_cases trace e t l h))
+-- where a test finds an element, the element has a place
+place_of : {X : Type 0} (test : X → Bool) (xs : List X) → list_any test xs ≡ true → Passes test xs
+place_of test [] h = absurd (true≢false (sym h))
+place_of test (x ∷ xs) h = passes_more test x xs (test x) refl h (place_of test xs)
+
+-- where it finds none, none passes
+none_passes : {X : Type 0} (test : X → Bool) (xs : List X) (i : ℕ) (x : X) → list_any test xs ≡ false → slice_get xs i ≡ Some x → test x ≡ true → ⊥
+none_passes test xs i x none at_i passes = true≢false (sym (any_passes_from_place test xs i x at_i passes) ∙ none)
+
+-- a fork is told
+fork_told : (u : ℕ) (o : Op) → is_fork_of u o ≡ true → o ≡ Fork u
+fork_told u (Fork v) h = ap Fork (eqb-true v u h)
+fork_told u (Join v) h = absurd (true≢false (sym h))
+fork_told u (Read x) h = absurd (true≢false (sym h))
+fork_told u (Write x) h = absurd (true≢false (sym h))
+fork_told u (Acquire l) h = absurd (true≢false (sym h))
+fork_told u (Release l) h = absurd (true≢false (sym h))
+
+-- a join is told
+join_told : (u : ℕ) (o : Op) → is_join_of u o ≡ true → o ≡ Join u
+join_told u (Join v) h = ap Join (eqb-true v u h)
+join_told u (Fork v) h = absurd (true≢false (sym h))
+join_told u (Read x) h = absurd (true≢false (sym h))
+join_told u (Write x) h = absurd (true≢false (sym h))
+join_told u (Acquire l) h = absurd (true≢false (sym h))
+join_told u (Release l) h = absurd (true≢false (sym h))
+
+module _ (events : List Event) (u : ℕ) where
+  -- a thread that is computed as forked is forked
+  forked_is : is_forked events u ≡ true → IsForked events (length events) u
+  forked_is h = let m = place_of (λ e. is_fork_of u e.op) events h in
+      (m.0, slice_get_within events m.0 m.1 m.2, op_from_event events m.0 m.1 m.2 ∙ ap Some (fork_told u m.1.op m.3))
+
+  -- and no other one
+  forked_not : is_forked events u ≡ false → IsForked events (length events) u → ⊥
+  forked_not none f = let e = event_of events f.0 (Fork u) f.2 in
+      none_passes (λ e. is_fork_of u e.op) events f.0 e.0 none e.1 (subst (λ (o : Op). is_fork_of u o ≡ true) (sym e.2) (eq-eqb u u refl))
+
+  -- a thread that is computed as joined is joined
+  joined_is : is_joined events u ≡ true → IsJoined events (length events) u
+  joined_is h = let m = place_of (λ e. is_join_of u e.op) events h in
+      (m.0, slice_get_within events m.0 m.1 m.2, op_from_event events m.0 m.1 m.2 ∙ ap Some (join_told u m.1.op m.3))
+
+  -- and no other one
+  joined_not : is_joined events u ≡ false → IsJoined events (length events) u → ⊥
+  joined_not none j = let e = event_of events j.0 (Join u) j.2 in
+      none_passes (λ e. is_join_of u e.op) events j.0 e.0 none e.1 (subst (λ (o : Op). is_join_of u o ≡ true) (sym e.2) (eq-eqb u u refl))
+
+  -- a thread that is computed as started has an event
+  started_is : has_started events u ≡ true → HasStarted events (length events) u
+  started_is h = let m = place_of (λ e. e.thread == u) events h in
+      (m.0, slice_get_within events m.0 m.1 m.2, thread_from_event events m.0 m.1 m.2 ∙ ap Some (eqb-true m.1.thread u m.3))
+
+  -- and no other one
+  started_not : has_started events u ≡ false → HasStarted events (length events) u → ⊥
+  started_not none s = let e = mapped_from (λ (x : Event). x.thread) (slice_get events s.0) u s.2 in
+      none_passes (λ e. e.thread == u) events s.0 e.0 none e.1 (eq-eqb e.0.thread u e.2)
+
+-- ---- the law of an operation
+
+module _ (events : List Event) (t : ℕ) (tells : Tells events) where
+  -- an acquire
+  acquire_judged : (l : ℕ) (o : Option ℕ) → holder events l ≡ o → Judges events t (Acquire l) (acquire_fault t o)
+  acquire_judged l None is = (λ u h. let held = (tells l u).1 h in cc, tt)
+  acquire_judged l (Some u) is = at (cases_eq u t)
     where
-      from : (HoldsNow trace t l × ((e.thread ≡ t) → (e.op ≡ Release l) → ⊥)) ⊎ ((e.thread ≡ t) × (e.op ≡ Acquire l)) → holder trace l ≡ Some t
-      from (inl old) = (tells l t).1 old.0
-      from (inr new) = absurd (no_acquire new.1)
+      at : (u ≡ t) ⊎ (u ≢ t) → Judges events t (Acquire l) (acquire_fault t (Some u))
+      at (inl same) = rw (eq-eqb u t same) ((tells l t).0 (is ∙ ap Some same))
+      at (inr other) = rw (ne_eqb u t other) (other, (tells l u).0 is)
 
-  -- after an acquire its thread is the holder
-  acquires : e.op ≡ Acquire l → (Some e.thread ≡ Some t) ↔ HoldsNow (trace ++ e ∷ []) t l
-  acquires is = (λ h. let same : e.thread ≡ t = cc in subst (λ (u : ℕ). HoldsNow (trace ++ e ∷ []) u l) same (hold_acquires trace e l is), λ h. from (hold_cases trace e t l h))
+  -- a release
+  release_judged : (l : ℕ) (o : Option ℕ) → holder events l ≡ o → Judges events t (Release l) (release_fault t o)
+  release_judged l None is = λ h. let held = (tells l t).1 h in cc
+  release_judged l (Some u) is = at (cases_eq u t)
     where
-      free : (u : ℕ) → HoldsNow trace u l → ⊥
-      free = subst (λ (o : Op). LockLaw trace ◌<◌ (length trace) e.thread o) is meets
+      at : (u ≡ t) ⊎ (u ≢ t) → Judges events t (Release l) (release_fault t (Some u))
+      at (inl same) = rw (eq-eqb u t same) ((tells l t).0 (is ∙ ap Some same), tt)
+      at (inr other) = rw (ne_eqb u t other) (λ h. let held = (tells l t).1 h in let same : u ≡ t = cc in other same)
 
-      from : (HoldsNow trace t l × ((e.thread ≡ t) → (e.op ≡ Release l) → ⊥)) ⊎ ((e.thread ≡ t) × (e.op ≡ Acquire l)) → Some e.thread ≡ Some t
-      from (inl old) = absurd (free t old.0)
-      from (inr new) = ap Some new.0
-
-  -- after a release nobody holds the lock
-  releases : e.op ≡ Release l → (nobody ≡ Some t) ↔ HoldsNow (trace ++ e ∷ []) t l
-  releases is = (λ h. cc, λ h. from (hold_cases trace e t l h))
+  -- a fork
+  fork_judged : (u : ℕ) → Judges events t (Fork u) (fork_fault events t u)
+  fork_judged u = at (cases_eq u t)
     where
-      own : holder trace l ≡ Some e.thread
-      own = (tells l e.thread).1 (subst (λ (o : Op). LockLaw trace ◌<◌ (length trace) e.thread o) is meets)
+      late : (u ≢ t) → ¬ (IsJoined events (length events) u) → ¬ (IsForked events (length events) u) → (b : Bool) → has_started events u ≡ b
+          → Judges events t (Fork u) (cond b (Some law.ForkLate) None)
+      late other joined forked true is = (other, joined, forked, started_is events u is)
+      late other joined forked false is = (tt, (other, joined, forked, started_not events u is))
 
-      from : (HoldsNow trace t l × ((e.thread ≡ t) → (e.op ≡ Release l) → ⊥)) ⊎ ((e.thread ≡ t) × (e.op ≡ Acquire l)) → nobody ≡ Some t
-      from (inl old) = let mine = own in let theirs = (tells l t).1 old.0 in let same : e.thread ≡ t = cc in absurd (old.1 same is)
-      from (inr new) = let acquires_it = new.1 in cc
+      twice : (u ≢ t) → ¬ (IsJoined events (length events) u) → (b : Bool) → is_forked events u ≡ b
+          → Judges events t (Fork u) (cond b (Some law.ForkTwice) (cond (has_started events u) (Some law.ForkLate) None))
+      twice other joined true is = (other, joined, forked_is events u is)
+      twice other joined false is = late other joined (forked_not events u is) (has_started events u) refl
 
-  -- what is computed after the event is who holds the lock then
-  after : (o : Op) → e.op ≡ o → (held_after l (holder trace l) e.thread o ≡ Some t) ↔ HoldsNow (trace ++ e ∷ []) t l
-  after (Acquire k) is = at (cases_eq k l)
+      after : (u ≢ t) → (b : Bool) → is_joined events u ≡ b
+          → Judges events t (Fork u) (cond b (Some law.AfterJoin) (cond (is_forked events u) (Some law.ForkTwice) (cond (has_started events u) (Some law.ForkLate) None)))
+      after other true is = (other, joined_is events u is)
+      after other false is = twice other (joined_not events u is) (is_forked events u) refl
+
+      at : (u ≡ t) ⊎ (u ≢ t) → Judges events t (Fork u) (fork_fault events t u)
+      at (inl same) = rw (eq-eqb u t same) same
+      at (inr other) = rw (ne_eqb u t other) (after other (is_joined events u) refl)
+
+  -- a join
+  join_judged : (u : ℕ) → Judges events t (Join u) (operation_fault events t (Join u))
+  join_judged u = at (cases_eq u t)
     where
-      at : (k ≡ l) ⊎ (k ≢ l) → (held_after l (holder trace l) e.thread (Acquire k) ≡ Some t) ↔ HoldsNow (trace ++ e ∷ []) t l
-      at (inl same) = rw (eq-eqb k l same) (acquires (is ∙ ap Acquire same))
-      at (inr other) = rw (ne_eqb k l other) (stays (λ h. let same : k ≡ l = cc in other same) (λ h. cc))
-  after (Release k) is = at (cases_eq k l)
-    where
-      at : (k ≡ l) ⊎ (k ≢ l) → (held_after l (holder trace l) e.thread (Release k) ≡ Some t) ↔ HoldsNow (trace ++ e ∷ []) t l
-      at (inl same) = rw (eq-eqb k l same) (releases (is ∙ ap Release same))
-      at (inr other) = rw (ne_eqb k l other) (stays (λ h. cc) (λ h. let same : k ≡ l = cc in other same))
-  after (Read x) is = stays (λ h. cc) (λ h. cc)
-  after (Write x) is = stays (λ h. cc) (λ h. cc)
-  after (Fork u) is = stays (λ h. cc) (λ h. cc)
-  after (Join u) is = stays (λ h. cc) (λ h. cc)
+      at : (u ≡ t) ⊎ (u ≢ t) → Judges events t (Join u) (operation_fault events t (Join u))
+      at (inl same) = rw (eq-eqb u t same) same
+      at (inr other) = rw (ne_eqb u t other) (tt, other)
 
--- so the holders are computed rightly after a lawful event more
-pub tells_push : (trace : List Event) (e : Event) → LockLaw trace ◌<◌ (length trace) e.thread e.op → Tells trace → Tells (trace ++ e ∷ [])
-tells_push trace e meets tells l t = rw (holder_push l None trace e) (after trace e meets tells l t e.op refl)
+  -- each operation
+  pub judged : (o : Op) → Judges events t o (operation_fault events t o)
+  judged (Acquire l) = acquire_judged l (holder events l) refl
+  judged (Release l) = release_judged l (holder events l) refl
+  judged (Fork u) = fork_judged u
+  judged (Join u) = join_judged u
+  judged (Read x) = (tt, tt)
+  judged (Write x) = (tt, tt)
 
--- an event that may follow breaks no law
-pub no_fault : (trace : List Event) (e : Event) → Tells trace → MayFollow trace e → law_fault trace e.thread e.op ≡ None
-no_fault trace e tells laws = go e.op laws.locks
+-- ---- the law of an event
+
+-- an event whose thread was not joined breaks the law of its operation, or none
+by_operation : (events : List Event) (e : Event) (o : Option LawFault) → ¬ (IsJoined events (length events) e.thread) → Judges events e.thread e.op o → IsFirstBroken events e o
+by_operation events e None none h = record { not_joined = none; locks = h.0; threads = h.1 }
+by_operation events e (Some law.AfterJoin) none h = inr h
+by_operation events e (Some law.Full) none h = (none, h)
+by_operation events e (Some law.Reentrant) none h = (none, h)
+by_operation events e (Some (law.LockHeld u)) none h = (none, h)
+by_operation events e (Some law.NotHeld) none h = (none, h)
+by_operation events e (Some law.SelfThread) none h = (none, h)
+by_operation events e (Some law.ForkTwice) none h = (none, h)
+by_operation events e (Some law.ForkLate) none h = (none, h)
+
+-- where the holders are computed rightly, so are the laws
+pub computes_laws : (events : List Event) → Tells events → ComputesLaws events
+computes_laws events tells e = by (is_joined events e.thread) refl
   where
-    free : (o : Option ℕ) (l : ℕ) → holder trace l ≡ o → ((u : ℕ) → HoldsNow trace u l → ⊥) → acquire_fault o ≡ None
-    free None l is none = refl
-    free (Some u) l is none = absurd (none u ((tells l u).0 is))
+    by : (b : Bool) → is_joined events e.thread ≡ b → IsFirstBroken events e (cond b (Some law.AfterJoin) (operation_fault events e.thread e.op))
+    by true is = inl (joined_is events e.thread is)
+    by false is = by_operation events e (operation_fault events e.thread e.op) (joined_not events e.thread is) (judged events e.thread tells e.op)
 
-    go : (o : Op) → LockLaw trace ◌<◌ (length trace) e.thread o → law_fault trace e.thread o ≡ None
-    go (Acquire l) none = free (holder trace l) l refl none
-    go (Release l) own = rw ((tells l e.thread).1 own, eq-eqb e.thread e.thread refl) refl
-    go (Read x) law = refl
-    go (Write x) law = refl
-    go (Fork u) law = refl
-    go (Join u) law = refl
+-- no operation breaks a law by which a builder is full
+never_full : (events : List Event) (t : ℕ) (o : Op) → OperationFault events t o law.Full → ⊥
+never_full events t (Acquire l) h = h
+never_full events t (Release l) h = h
+never_full events t (Fork u) h = h
+never_full events t (Join u) h = h
+never_full events t (Read x) h = h
+never_full events t (Write x) h = h
 
--- the law that a plain operation breaks
-pub the_fault : (trace : List Event) (t : ℕ) (o : Op) (f : LawFault) → IsPlain o → Tells trace → OperationFault trace t o f → law_fault trace t o ≡ Some (kind_of t f)
-the_fault trace t (Acquire l) law.Reentrant plain tells h = rw ((tells l t).1 h) refl
-the_fault trace t (Acquire l) (law.LockHeld u) plain tells h = rw ((tells l u).1 h.1) refl
-the_fault trace t (Acquire l) law.Full plain tells h = absurd h
-the_fault trace t (Acquire l) law.AfterJoin plain tells h = absurd h
-the_fault trace t (Acquire l) law.NotHeld plain tells h = absurd h
-the_fault trace t (Acquire l) law.SelfThread plain tells h = absurd h
-the_fault trace t (Acquire l) law.ForkTwice plain tells h = absurd h
-the_fault trace t (Acquire l) law.ForkLate plain tells h = absurd h
-the_fault trace t (Release l) law.NotHeld plain tells h = go (holder trace l) refl
-  where
-    mine : (u : ℕ) → holder trace l ≡ Some u → (u ≡ t) ⊎ (u ≢ t) → release_fault t (Some u) ≡ Some (kind_of t law.NotHeld)
-    mine u is (inl same) = absurd (h ((tells l t).0 (is ∙ ap Some same)))
-    mine u is (inr other) = rw (ne_eqb u t other) refl
-
-    go : (o : Option ℕ) → holder trace l ≡ o → release_fault t o ≡ Some (kind_of t law.NotHeld)
-    go None is = refl
-    go (Some u) is = mine u is (cases_eq u t)
-the_fault trace t (Release l) law.Reentrant plain tells h = absurd h
-the_fault trace t (Release l) (law.LockHeld u) plain tells h = absurd h
-the_fault trace t (Release l) law.Full plain tells h = absurd h
-the_fault trace t (Release l) law.AfterJoin plain tells h = absurd h
-the_fault trace t (Release l) law.SelfThread plain tells h = absurd h
-the_fault trace t (Release l) law.ForkTwice plain tells h = absurd h
-the_fault trace t (Release l) law.ForkLate plain tells h = absurd h
-the_fault trace t (Read x) f plain tells h = absurd h
-the_fault trace t (Write x) f plain tells h = absurd h
-the_fault trace t (Fork u) f plain tells h = absurd plain
-the_fault trace t (Join u) f plain tells h = absurd plain
-
--- the fault of a plain event, where no thread was joined
-pub broken : (trace : List Event) (threads : ℕ) (e : Event) (f : LawFault) → ArePlain trace threads → IsPlain e.op → Tells trace → BreaksFirst trace e f → law_fault trace e.thread e.op ≡ Some (kind_of e.thread f)
-broken trace threads e law.AfterJoin plain op tells (inl joined) = absurd (plain_no_join trace threads (length trace) e.thread plain joined)
-broken trace threads e law.AfterJoin plain op tells (inr h) = the_fault trace e.thread e.op law.AfterJoin op tells h
-broken trace threads e law.Reentrant plain op tells h = the_fault trace e.thread e.op law.Reentrant op tells h.1
-broken trace threads e (law.LockHeld u) plain op tells h = the_fault trace e.thread e.op (law.LockHeld u) op tells h.1
-broken trace threads e law.NotHeld plain op tells h = the_fault trace e.thread e.op law.NotHeld op tells h.1
-broken trace threads e law.Full plain op tells h = the_fault trace e.thread e.op law.Full op tells h.1
-broken trace threads e law.SelfThread plain op tells h = the_fault trace e.thread e.op law.SelfThread op tells h.1
-broken trace threads e law.ForkTwice plain op tells h = the_fault trace e.thread e.op law.ForkTwice op tells h.1
-broken trace threads e law.ForkLate plain op tells h = the_fault trace e.thread e.op law.ForkLate op tells h.1
+-- a builder with room refuses an event for the law that it breaks first
+pub refused_for : (built : Built) (e : Event) (f : LawFault) → length built.events < built.capacity → BreaksFirst built.events e f → IsRefusedFor built e f
+refused_for built e law.Full room h = absurd (never_full built.events e.thread e.op h.1)
+refused_for built e law.AfterJoin room h = (room, h)
+refused_for built e law.Reentrant room h = (room, h)
+refused_for built e (law.LockHeld u) room h = (room, h)
+refused_for built e law.NotHeld room h = (room, h)
+refused_for built e law.SelfThread room h = (room, h)
+refused_for built e law.ForkTwice room h = (room, h)
+refused_for built e law.ForkLate room h = (room, h)

@@ -1,6 +1,7 @@
 pub mod Numbers
 pub mod TextPieces
-pub mod PlainLemmas
+pub mod NamedLemmas
+pub mod HolderLemmas
 pub mod LawLemmas
 pub mod EventLemmas
 pub mod Holders

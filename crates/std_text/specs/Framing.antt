@@ -2,7 +2,8 @@
 use Rattle.std.specs.Prelude.{◌≡◌, ℕ, ◌+◌, ◌-◌, Bool, List, [], ◌∷◌, ◌++◌, ◌==◌, ◌&&◌, length, take, slice_index, nat_lt, if◌then◌else◌, Result, Ok}
 use Rattle.sp_base.specs.declared.limits.TheConstants.{MAX_LINE, MAX_INPUT}
 use Rattle.std_text.specs.Fields.{newline}
-use Rattle.std_text.specs.Meaning.{Reading, refused, read_event}
+use Rattle.std_text.specs.Meaning.{Reading, refused, skipped, read_event}
+use Rattle.std_text.specs.declared.fault.StdKind.TheVariants.{LineTooLong, InputTooLong}
 use Rattle.std_text.specs.Refusal.{Refusal, ◌>>=◌}
 
 -- the byte that one line may have at its end and that is dropped
@@ -32,8 +33,8 @@ content line =
 -- after one more line: it is refused where it is too long, skipped and counted where it is empty, and else read for what it means
 unfoldable pub read_line : Reading → List ℕ → Result Reading Refusal
 read_line r line =
-    if nat_lt MAX_LINE (length line) then refused r
-    else if length (content line) == 0 then Ok (record r { line = r.line + 1 })
+    if nat_lt MAX_LINE (length line) then refused r LineTooLong
+    else if length (content line) == 0 then Ok (skipped r)
     else read_event r (content line)
 
 -- after these lines, up to the first that is refused
@@ -55,13 +56,15 @@ begun = record { events = []; names = record { threads = []; locks = []; vars = 
 abbrev pub start : Progress
 start = record { reading = begun; rest = []; taken = 0 }
 
--- after bytes behind the front of a line, which may be too many
+-- after bytes behind the front of a line, with or without the byte past the limit behind them: a line is refused at the byte by which it is too long, that byte with the number of its line
 abbrev pub through : Reading → List ℕ → List ℕ → Bool → ℕ → Result Progress Refusal
 through r front bytes too_many taken =
     read_lines r (cut_after front bytes).lines >>= λ s.
-    if too_many then refused s else Ok (record { reading = s; rest = (cut_after front bytes).rest; taken = taken })
+    if nat_lt MAX_LINE (length (cut_after front bytes).rest) then refused s LineTooLong
+    else if too_many then refused s InputTooLong
+    else Ok (record { reading = s; rest = (cut_after front bytes).rest; taken = taken })
 
--- after more bytes; the one past the limit is refused, with its line
+-- after more bytes: those within the limit, and perhaps the byte past it
 unfoldable pub after : Progress → List ℕ → Result Progress Refusal
 after p bytes = through p.reading p.rest (take (MAX_INPUT - p.taken) bytes) (nat_lt MAX_INPUT (p.taken + length bytes)) (p.taken + length bytes)
 

@@ -2,7 +2,6 @@ pub mod Fields
 pub mod Framing
 pub mod Law
 pub mod Meaning
-pub mod Plain
 pub mod Refusal
 pub mod Told
 pub mod Writing

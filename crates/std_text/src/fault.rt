@@ -2,42 +2,43 @@ use sp_base::ThreadId;
 use std::marker::Model;
 use thiserror::Error;
 
-/// Why a line is refused.
+/// Why a text is refused, in the order of the kinds' numbers: 1 to 10 are faults of the text and its limits, 11 to 17 are
+/// laws that an event breaks.
 #[derive(Clone, Copy, Debug, PartialEq, Eq)]
 pub enum StdKind {
-    /// The line is longer than a line may be.
+    /// The line has more than `MAX_LINE` bytes, without its newline.
     LineTooLong,
     /// The line has no bar.
     NoBar,
-    /// The thread or the operand is no name.
+    /// What stands for a name is none.
     BadName,
-    /// The line's word is none of the operations that are taken.
+    /// The word of the operation is not known.
     UnknownOperation,
-    /// The operation has no operand in parentheses.
+    /// The operation has no operand in parentheses at its end.
     BadOperand,
-    /// The text is longer than a text may be, and the line has the first byte too many.
+    /// The text has more than `MAX_INPUT` bytes.
     InputTooLong,
-    /// The line is one event more than a trace may have.
+    /// The text has more than `MAX_EVENTS` events.
     TooManyEvents,
-    /// The line names one thread more than a trace may have.
+    /// The line brings one name of a thread more than `MAX_THREADS`.
     TooManyThreads,
-    /// The line names one lock more than a trace may have.
+    /// The line brings one name of a lock more than `MAX_LOCKS`.
     TooManyLocks,
-    /// The line names one variable more than a trace may have.
+    /// The line brings one name of a variable more than `MAX_VARS`.
     TooManyVars,
-    /// The line acquires a lock that this thread holds.
+    /// The line acquires a lock that the named other thread holds.
     LockHeld(ThreadId),
     /// The line acquires a lock that its own thread holds.
     Reentrant,
-    /// The line releases a lock that its thread does not hold.
+    /// The line releases a lock that its own thread does not hold.
     NotHeld,
     /// The line forks a thread that has an event.
     ForkLate,
-    /// The line forks a thread that was forked.
+    /// The line forks a thread that was forked before.
     ForkTwice,
     /// The line forks or joins its own thread.
     SelfThread,
-    /// The line is of a thread that was joined, or forks one.
+    /// The line's thread, or the thread that it forks, was joined.
     AfterJoin,
 }
 

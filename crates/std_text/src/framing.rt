@@ -3,7 +3,7 @@ ghost use Rattle.std.specs.Prelude.{◌≡◌, ◌<◌, ◌≤◌, ◌+◌, ◌^
 ghost use Rattle.std_text.specs.Framing.{content, read_line, after, closed, PiecesAreTheText};
 ghost use Rattle.std_text.specs.Told.{Steps};
 
-use crate::fault::ReadFault;
+use crate::fault::{ReadFault, StdKind};
 use crate::line::LineReader;
 use sp_base::{MAX_INPUT, MAX_LINE, OutOfMemory};
 use std::alloc::Global;
@@ -23,13 +23,11 @@ fn without_return(line: &[u8]) -> &[u8]
 // Reads one more line.
 #[tactic(auto, unfolding(crate::specs::Framing::read_line))]
 fn take_line(lines: &mut LineReader, line: &[u8]) -> Result<(), ReadFault>
-    requires { lines.old.line + 1 < 2 ^ 32 }
+    requires number { lines.old.line + 1 < 2 ^ 32 }
+    requires length { length line.now ≤ MAX_LINE }
     ensures read { Steps result lines.new.names lines.new (read_line lines.old line.now) }
     ensures line { lines.new.line ≤ lines.old.line + 1 }
 {
-    if line.len() > MAX_LINE {
-        return Err(lines.refusal());
-    }
     let content = without_return(line);
     if content.is_empty() {
         lines.skip();
@@ -48,14 +46,14 @@ pub struct TextReader {
 
 impl Model for TextReader {
     ghost use Rattle.std.specs.Prelude.{◌≤◌, ◌+◌, length};
-    ghost use Rattle.sp_base.specs.declared.limits.TheConstants.{MAX_INPUT};
+    ghost use Rattle.sp_base.specs.declared.limits.TheConstants.{MAX_INPUT, MAX_LINE};
     ghost use Rattle.std_text.specs.Framing.{Progress};
 
     ghost Value = { Progress };
 
     ghost view = { λ r. record { reading = r.lines; rest = r.rest.items; taken = r.taken } };
 
-    ghost invariant = { λ r. (r.lines.line + length r.rest.items ≤ r.taken + 1) × (r.taken ≤ MAX_INPUT) };
+    ghost invariant = { λ r. (r.lines.line + length r.rest.items ≤ r.taken + 1) × (r.taken ≤ MAX_INPUT) × (length r.rest.items ≤ MAX_LINE) };
 }
 
 impl TextReader {
@@ -77,13 +75,16 @@ impl TextReader {
         ensures { Steps result self.new.reading.names self.new (after self.old (byte ∷ [])) }
     {
         if self.taken == MAX_INPUT {
-            return Err(self.lines.refusal());
+            return Err(self.lines.refusal(StdKind::InputTooLong));
         }
         self.taken += 1;
         if byte == b'\n' {
             take_line(&mut self.lines, &self.rest)?;
             self.rest.clear();
             return Ok(());
+        }
+        if self.rest.len() == MAX_LINE {
+            return Err(self.lines.refusal(StdKind::LineTooLong));
         }
         let Ok(()) = self.rest.push(byte) else {
             return Err(ReadFault::OutOfMemory);

@@ -14,6 +14,6 @@ mod writing;
 
 pub use fault::{ReadFault, StdFault, StdKind};
 pub use framing::pieces_are_the_text;
-pub use law::holders_hold_the_locks;
+pub use law::computed_laws_are_the_laws;
 pub use reader::Reader;
 pub use writing::write_event;

@@ -1,14 +1,14 @@
 // What one line means after the lines before it.
-ghost use Rattle.std.specs.Prelude.{◌≡◌, ◌<◌, ◌+◌, ◌^◌, ◌≤◌, IfOk, OnOk, OnErr, IsErrOf, true, false, Some, [], length};
-ghost use Rattle.std_text.specs.Fields.{parts_of};
+ghost use Rattle.std.specs.Prelude.{◌≡◌, ◌<◌, ◌+◌, ◌^◌, ◌≤◌, IfOk, OnOk, OnErr, IsErrOf, true, false, Ok, Some, [], length};
+ghost use Rattle.trace_laws.specs.Traces.{NamesBelow};
 ghost use Rattle.std_text.specs.Law.{kind_of};
-ghost use Rattle.std_text.specs.Meaning.{with_operand, fits, op_on, read_event, read_parts};
-ghost use Rattle.std_text.specs.Plain.{IsPlain};
+ghost use Rattle.std_text.specs.Meaning.{with_operand, fits, too_many, op_on, skipped, read_event, read_parts};
+ghost use Rattle.std_text.specs.Refusal.{NamesNoHolder};
 ghost use Rattle.std_text.specs.Told.{Steps};
 
 use crate::fault::{ReadFault, StdFault, StdKind};
 use crate::fields::{Action, Fields, split_line};
-use sp_base::{MAX_EVENTS, OutOfMemory, ThreadId};
+use sp_base::{MAX_EVENTS, OutOfMemory};
 use std::alloc::Global;
 use std::marker::Model;
 use trace_laws::{Builder, Event, LawFault, NameFault, Names, Op, Trace};
@@ -35,7 +35,7 @@ impl Model for LineReader {
 fn operation_on(names: &mut Names, action: Action, operand: &[u8]) -> Result<Op, NameFault>
     ensures ok { OnOk result (names.new ≡ with_operand names.old action operand.now) }
     ensures operation { IfOk result (λ op. op ≡ op_on names.old action operand.now) }
-    ensures plain { IfOk result IsPlain }
+    ensures named { IfOk result (λ op. NamesBelow op (length names.new.threads)) }
     ensures within { OnOk result (fits names.new action ≡ true) }
     ensures err { OnErr result (names.new ≡ names.old) }
     ensures full { IsErrOf result NameFault.Full → fits (with_operand names.old action operand.now) action ≡ false }
@@ -45,18 +45,36 @@ fn operation_on(names: &mut Names, action: Action, operand: &[u8]) -> Result<Op,
         Action::Write => Ok(Op::Write(names.var(operand)?)),
         Action::Acquire => Ok(Op::Acquire(names.lock(operand)?)),
         Action::Release => Ok(Op::Release(names.lock(operand)?)),
+        Action::Fork => Ok(Op::Fork(names.thread(operand)?)),
+        Action::Join => Ok(Op::Join(names.thread(operand)?)),
     }
 }
 
-// The kind of a law that an event of the thread breaks.
-fn law_kind(thread: ThreadId, fault: &LawFault) -> StdKind
-    ensures { result ≡ kind_of thread fault.now }
+// The fault of the names that an action adds to, where there is no room.
+fn limit_of(action: Action) -> StdKind
+    ensures value { result ≡ too_many action }
+    ensures kind { NamesNoHolder result }
+{
+    match action {
+        Action::Read | Action::Write => StdKind::TooManyVars,
+        Action::Acquire | Action::Release => StdKind::TooManyLocks,
+        Action::Fork | Action::Join => StdKind::TooManyThreads,
+    }
+}
+
+// The kind of a law that an event breaks.
+fn law_kind(fault: &LawFault) -> StdKind
+    ensures { result ≡ kind_of fault.now }
 {
     match fault {
-        LawFault::Reentrant => StdKind::LockHeld(thread),
+        LawFault::Full => StdKind::TooManyEvents,
+        LawFault::AfterJoin => StdKind::AfterJoin,
+        LawFault::Reentrant => StdKind::Reentrant,
         LawFault::LockHeld(holder) => StdKind::LockHeld(*holder),
         LawFault::NotHeld => StdKind::NotHeld,
-        _ => StdKind::UnknownOperation,
+        LawFault::SelfThread => StdKind::SelfThread,
+        LawFault::ForkTwice => StdKind::ForkTwice,
+        LawFault::ForkLate => StdKind::ForkLate,
     }
 }
 
@@ -74,33 +92,23 @@ impl LineReader {
         })
     }
 
-    /// The refusal of the next line as none of those that are taken.
-    pub fn refusal(&self) -> ReadFault
-        ensures { result ≡ ReadFault.Text (record { line = self.now.line; kind = StdKind.UnknownOperation }) }
+    /// The refusal of the next line.
+    pub fn refusal(&self, kind: StdKind) -> ReadFault
+        ensures { result ≡ ReadFault.Text (record { line = self.now.line; kind = kind }) }
     {
         ReadFault::Text(StdFault {
             line: self.line,
-            kind: StdKind::UnknownOperation,
+            kind,
         })
     }
 
-    // The refusal of the next line for the law that it breaks.
-    fn law_fault(&self, thread: ThreadId, fault: &LawFault) -> ReadFault
-        ensures { result ≡ ReadFault.Text (record { line = self.now.line; kind = kind_of thread fault.now }) }
-    {
-        ReadFault::Text(StdFault {
-            line: self.line,
-            kind: law_kind(thread, fault),
-        })
-    }
-
-    // Why a name of the line has no number.
-    fn name_fault(&self, fault: NameFault) -> ReadFault
-        ensures full { fault ≡ NameFault.Full → result ≡ ReadFault.Text (record { line = self.now.line; kind = StdKind.UnknownOperation }) }
+    // Why a name of the line has no number, where this kind says that there is no room for it.
+    fn name_fault(&self, fault: NameFault, kind: StdKind) -> ReadFault
+        ensures full { fault ≡ NameFault.Full → result ≡ ReadFault.Text (record { line = self.now.line; kind = kind }) }
         ensures memory { fault ≡ NameFault.OutOfMemory → result ≡ ReadFault.OutOfMemory }
     {
         match fault {
-            NameFault::Full => self.refusal(),
+            NameFault::Full => self.refusal(kind),
             NameFault::OutOfMemory => ReadFault::OutOfMemory,
         }
     }
@@ -109,24 +117,27 @@ impl LineReader {
     fn append(&mut self, parts: &Fields<'_>) -> Result<(), ReadFault>
         requires { self.old.line + 1 < 2 ^ 32 }
         ensures line { self.new.line ≤ self.old.line + 1 }
-        ensures read { Steps result self.new.names self.new (read_parts self.old (Some (record {
+        ensures read { Steps result self.new.names self.new (read_parts self.old (record {
           thread = parts.now.thread.now;
           action = parts.now.action;
           operand = parts.now.operand.now;
           location = parts.now.location;
-        }))) }
+        })) }
     {
+        if self.builder.is_full() {
+            return Err(self.refusal(StdKind::TooManyEvents));
+        }
         let thread = match self.names.thread(parts.thread) {
             Ok(thread) => thread,
-            Err(fault) => return Err(self.name_fault(fault)),
+            Err(fault) => return Err(self.name_fault(fault, StdKind::TooManyThreads)),
         };
         let op = match operation_on(&mut self.names, parts.action, parts.operand) {
             Ok(op) => op,
-            Err(fault) => return Err(self.name_fault(fault)),
+            Err(fault) => return Err(self.name_fault(fault, limit_of(parts.action))),
         };
         let loc = parts.location;
         if let Err(fault) = self.builder.push(Event { thread, op, loc }) {
-            return Err(self.law_fault(thread, &fault));
+            return Err(self.refusal(law_kind(&fault)));
         }
         self.line += 1;
         Ok(())
@@ -139,15 +150,19 @@ impl LineReader {
         ensures line { self.new.line ≤ self.old.line + 1 }
     {
         match split_line(content) {
-            Some(parts) => self.append(&parts),
-            None => Err(self.refusal()),
+            Ok(Some(parts)) => self.append(&parts),
+            Ok(None) => {
+                self.skip();
+                Ok(())
+            }
+            Err(kind) => Err(self.refusal(kind)),
         }
     }
 
-    /// Counts an empty line.
+    /// Counts a line that is skipped.
     pub fn skip(&mut self)
         requires { self.old.line + 1 < 2 ^ 32 }
-        ensures { self.new ≡ record self.old { line = self.old.line + 1 } }
+        ensures { self.new ≡ skipped self.old }
     {
         self.line += 1;
     }

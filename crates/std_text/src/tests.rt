@@ -3,7 +3,7 @@ ghost use Rattle.std.specs.Prelude.{◌≡◌, false};
 ghost use Rattle.std_text.specs.Refusal.{IsHolderGiven};
 ghost use Rattle.std_text.specs.Told.{IsHolderKnown};
 
-use crate::{ReadFault, Reader, StdKind, holders_hold_the_locks, pieces_are_the_text};
+use crate::{ReadFault, Reader, StdKind, computed_laws_are_the_laws, pieces_are_the_text};
 use std::alloc::{AllocError, Global};
 use std::test::Fail;
 use trace_laws::{Names, Trace};
@@ -30,28 +30,43 @@ fn first_location(alloc: Global, text: &[u8]) -> Option<u32> {
     Some(event.loc)
 }
 
-// The line of a fault, and whether its kind is that of a line that is none of those taken.
-fn told_by(fault: &ReadFault) -> (u32, bool) {
-    match fault {
-        ReadFault::Text(fault) => (fault.line, is_unknown(&fault.kind)),
-        ReadFault::OutOfMemory => (0, false),
-    }
-}
-
-fn is_unknown(kind: &StdKind) -> bool {
+// The number of a kind.
+fn number(kind: &StdKind) -> u32 {
     match kind {
-        StdKind::UnknownOperation => true,
-        _ => false,
+        StdKind::LineTooLong => 1,
+        StdKind::NoBar => 2,
+        StdKind::BadName => 3,
+        StdKind::UnknownOperation => 4,
+        StdKind::BadOperand => 5,
+        StdKind::InputTooLong => 6,
+        StdKind::TooManyEvents => 7,
+        StdKind::TooManyThreads => 8,
+        StdKind::TooManyLocks => 9,
+        StdKind::TooManyVars => 10,
+        StdKind::LockHeld(_) => 11,
+        StdKind::Reentrant => 12,
+        StdKind::NotHeld => 13,
+        StdKind::ForkLate => 14,
+        StdKind::ForkTwice => 15,
+        StdKind::SelfThread => 16,
+        StdKind::AfterJoin => 17,
     }
 }
 
-// The line of the fault of a text, where it is none of those taken.
-fn refused_line(alloc: Global, text: &[u8]) -> Option<u32> {
+// The line of a fault, and the number of its kind.
+fn told_by(fault: &ReadFault) -> (u32, u32) {
+    match fault {
+        ReadFault::Text(fault) => (fault.line, number(&fault.kind)),
+        ReadFault::OutOfMemory => (0, 0),
+    }
+}
+
+// The line and the kind for which a text is refused, and zeros where it is taken.
+fn refusal(alloc: Global, text: &[u8]) -> (u32, u32) {
     let Err(fault) = read(alloc, text) else {
-        return None;
+        return (0, 0);
     };
-    let (line, unknown) = told_by(&fault);
-    if unknown { Some(line) } else { None }
+    told_by(&fault)
 }
 
 #[test]
@@ -77,6 +92,20 @@ fn lines_that_are_taken(rt: HostRuntime) {
         ("two carriage returns", "T0|w(X)|12\r\r\n", 0),
         ("names with other bytes", "T 0|w(V234.23[0])|12\n", 12),
         ("a name that is an operation", "w|w(w)|12\n", 12),
+        ("a skipped line before", "T|begin(m)|3\nT0|w(X)|12\n", 12),
+        ("a skipped word alone", "|end\nT0|w(X)|12\n", 12),
+        (
+            "a skipped line with bad names",
+            "(|begin(()\nT0|w(X)|12\n",
+            12,
+        ),
+        ("a fork", "T0|fork(T1)|12\n", 12),
+        ("a join of a thread without events", "T0|join(T1)|12\n", 12),
+        (
+            "an end of a thread that was joined",
+            "T0|join(T1)|12\nT1|end\n",
+            12,
+        ),
     ] {
         assert_eq!(rt;
             first_location(rt.alloc(), text.as_bytes()),
@@ -88,29 +117,53 @@ fn lines_that_are_taken(rt: HostRuntime) {
 
 #[test]
 fn lines_that_are_refused(rt: HostRuntime) {
-    for (case, text, line) in [
-        ("no bar", "T0 w(X)\n", 1),
-        ("a carriage return alone before the last", "\r\r\n", 1),
-        ("no thread", "|w(X)\n", 1),
-        ("a thread with a parenthesis", "T(|w(X)\n", 1),
-        ("no operation", "T0|\n", 1),
-        ("an unknown operation", "T0|write(X)\n", 1),
-        ("an operation in capitals", "T0|W(X)\n", 1),
-        ("a fork", "T0|fork(T1)\n", 1),
-        ("a join", "T0|join(T1)\n", 1),
-        ("a begin", "T0|begin(m)\n", 1),
-        ("an end", "T0|end\n", 1),
-        ("no parenthesis", "T0|w\n", 1),
-        ("no closing parenthesis", "T0|w(X\n", 1),
-        ("bytes behind the operand", "T0|w(X) \n", 1),
-        ("no operand", "T0|w()\n", 1),
-        ("an operand with a parenthesis", "T0|w((X)\n", 1),
-        ("a later line", "T0|w(X)\n\n\r\nT0|x(X)\nT0|\n", 4),
-        ("a last line without a newline", "T0|w(X)\nT0|w(X", 2),
+    for (case, text, line, kind) in [
+        ("no bar", "T0 w(X)\n", 1, 2),
+        ("a carriage return alone before the last", "\r\r\n", 1, 2),
+        ("a skipped word without a bar", "begin\n", 1, 2),
+        ("no thread", "|w(X)\n", 1, 3),
+        ("a thread with a parenthesis", "T(|w(X)\n", 1, 3),
+        ("no thread and an unknown operation", "|x(X)\n", 1, 3),
+        ("no operand", "T0|w()\n", 1, 3),
+        ("an operand with a parenthesis", "T0|w((X)\n", 1, 3),
+        ("two operands", "T0|w(X)(Y)\n", 1, 3),
+        ("no operation", "T0|\n", 1, 4),
+        ("an unknown operation", "T0|write(X)\n", 1, 4),
+        ("an operation in capitals", "T0|W(X)\n", 1, 4),
+        ("a longer skipped word", "T0|begins(m)\n", 1, 4),
+        ("an unknown operation without an operand", "T0|x\n", 1, 4),
+        ("no parenthesis", "T0|w\n", 1, 5),
+        ("no closing parenthesis", "T0|w(X\n", 1, 5),
+        ("an opening parenthesis alone", "T0|w(\n", 1, 5),
+        ("bytes behind the operand", "T0|w(X) \n", 1, 5),
+        ("a bar in the operand", "T0|w(X|Y)\n", 1, 5),
+        ("a later line", "T0|w(X)\n\n\r\nT0|x(X)\nT0|\n", 4, 4),
+        ("a last line without a newline", "T0|w(X)\nT0|w(X", 2, 5),
+        ("a held lock", "T0|acq(L)\nT1|acq(L)\n", 2, 11),
+        (
+            "a lock that the thread holds",
+            "T0|acq(L)\nT0|acq(L)\n",
+            2,
+            12,
+        ),
+        ("a free lock", "T0|rel(L)\n", 1, 13),
+        ("another's lock", "T0|acq(L)\nT1|rel(L)\n", 2, 13),
+        ("a fork behind an event", "T1|w(X)\nT0|fork(T1)\n", 2, 14),
+        ("a second fork", "T0|fork(T1)\nT2|fork(T1)\n", 2, 15),
+        ("a fork of itself", "T0|fork(T0)\n", 1, 16),
+        ("a join of itself", "T0|join(T0)\n", 1, 16),
+        ("an event behind a join", "T0|join(T1)\nT1|w(X)\n", 2, 17),
+        ("a fork behind a join", "T0|join(T1)\nT0|fork(T1)\n", 2, 17),
+        (
+            "a joined thread's release",
+            "T0|join(T1)\nT1|rel(L)\n",
+            2,
+            17,
+        ),
     ] {
         assert_eq!(rt;
-            refused_line(rt.alloc(), text.as_bytes()),
-            Some(line),
+            refusal(rt.alloc(), text.as_bytes()),
+            (line, kind),
             "{case}"
         );
     }
@@ -135,74 +188,117 @@ fn padded(
 #[test]
 fn lengths_at_their_limits(rt: HostRuntime) -> Result<(), Fail> {
     let alloc = rt.alloc();
-    for (case, front, byte, count, back, location, line) in [
-        (
-            "a thread of 255 bytes",
-            "",
-            b'T',
-            255,
-            "|w(X)|7\n",
-            Some(7),
-            None,
-        ),
-        (
-            "a thread of 256 bytes",
-            "",
-            b'T',
-            256,
-            "|w(X)|7\n",
-            None,
-            Some(1),
-        ),
-        (
-            "an operand of 255 bytes",
-            "T0|w(",
-            b'X',
-            255,
-            ")|7\n",
-            Some(7),
-            None,
-        ),
-        (
-            "an operand of 256 bytes",
-            "T0|w(",
-            b'X',
-            256,
-            ")|7\n",
-            None,
-            Some(1),
-        ),
+    for (case, front, byte, count, back, told) in [
+        ("a thread of 255 bytes", "", b'T', 255, "|w(X)\n", (0, 0)),
+        ("a thread of 256 bytes", "", b'T', 256, "|w(X)\n", (1, 3)),
+        ("an operand of 255 bytes", "T|w(", b'X', 255, ")\n", (0, 0)),
+        ("an operand of 256 bytes", "T|w(", b'X', 256, ")\n", (1, 3)),
         (
             "a line of 4,096 bytes",
-            "T0|w(X)|",
+            "T|w(X)|",
             b'0',
-            4_087,
-            "7\n",
-            Some(7),
-            None,
+            4_089,
+            "\n",
+            (0, 0),
         ),
         (
             "a line of 4,097 bytes",
-            "T0|w(X)|",
+            "T|w(X)|",
             b'0',
-            4_088,
-            "7\n",
-            None,
-            Some(1),
+            4_090,
+            "\n",
+            (1, 1),
         ),
         (
-            "a carriage return as byte 4,097",
-            "T0|w(X)|",
+            "byte 4,096 a return",
+            "T|w(X)|",
             b'0',
-            4_087,
-            "7\r\n",
-            None,
-            Some(1),
+            4_088,
+            "\r\n",
+            (0, 0),
         ),
+        (
+            "byte 4,097 a return",
+            "T|w(X)|",
+            b'0',
+            4_089,
+            "\r\n",
+            (1, 1),
+        ),
+        ("4,097 bytes without a bar", "", b'0', 4_097, "", (1, 1)),
+        ("4,096 bytes without a bar", "", b'0', 4_096, "", (1, 2)),
+        ("a later line", "\nT|w(X)\n", b'0', 4_097, "\n", (3, 1)),
     ] {
         let text = padded(alloc, front, byte, count, back)?;
-        assert_eq!(rt; first_location(alloc, &text), location, "{case}");
-        assert_eq!(rt; refused_line(alloc, &text), line, "{case}");
+        assert_eq!(rt; refusal(alloc, &text), told, "{case}");
+    }
+    Ok(())
+}
+
+// A text of so many lines, each with its number in a name, and a last line.
+fn numbered(
+    alloc: Global,
+    front: &str,
+    count: u32,
+    back: &str,
+    last: &str,
+) -> Result<Vec<u8>, AllocError> {
+    let mut text = Vec::new(alloc);
+    for line in 0..count {
+        let middle = format!(in alloc; "{line}")?;
+        text.extend_from_slice(front.as_bytes())?;
+        text.extend_from_slice(middle.as_bytes())?;
+        text.extend_from_slice(back.as_bytes())?;
+    }
+    text.extend_from_slice(last.as_bytes())?;
+    Ok(text)
+}
+
+#[test]
+fn counts_at_their_limits(rt: HostRuntime) -> Result<(), Fail> {
+    let alloc = rt.alloc();
+    for (case, front, count, back, last, told) in [
+        ("64 threads", "T", 64, "|w(X)\n", "T0|w(X)", (0, 0)),
+        ("65 threads", "T", 64, "|w(X)\n", "U|w(X)", (65, 8)),
+        (
+            "a 65th by a fork",
+            "T",
+            64,
+            "|w(X)\n",
+            "T0|fork(U)",
+            (65, 8),
+        ),
+        ("65 that are skipped", "T", 65, "|end\n", "U|w(X)", (0, 0)),
+        ("4,096 locks", "T|acq(", 4_096, ")\n", "T|rel(0)", (0, 0)),
+        (
+            "4,097 locks",
+            "T|acq(",
+            4_096,
+            ")\n",
+            "T|acq(L)",
+            (4_097, 9),
+        ),
+        ("65,536 events", "T|w(", 65_536, ")\n", "T|end(m)", (0, 0)),
+        (
+            "65,537 events",
+            "T|w(",
+            65_536,
+            ")\n",
+            "T|w(0)",
+            (65_537, 7),
+        ),
+        (
+            "a new thread then",
+            "T|w(",
+            65_536,
+            ")\n",
+            "U|w(V)",
+            (65_537, 7),
+        ),
+        ("no event then", "T|w(", 65_536, ")\n", "T|w", (65_537, 5)),
+    ] {
+        let text = numbered(alloc, front, count, back, last)?;
+        assert_eq!(rt; refusal(alloc, &text), told, "{case}");
     }
     Ok(())
 }
@@ -242,37 +338,76 @@ fn the_holder_has_a_name(rt: HostRuntime) {
     let alloc = rt.alloc();
     let by_another = b"T0|w(X)\nmain|acq(L)\nT1|acq(L)\n";
     assert!(rt; is_held_by(alloc, by_another, b"main"));
-    let by_itself = b"T0|w(X)\nmain|acq(L)\nmain|acq(L)\n";
-    assert!(rt; is_held_by(alloc, by_itself, b"main"));
 }
 
-// The line of the fault that a piece is answered with, or 0.
-fn line_at(reader: &mut Reader, piece: &[u8]) -> u32
+// The line and the kind of the fault that a piece is answered with, or zeros.
+fn told_at(reader: &mut Reader, piece: &[u8]) -> (u32, u32)
     requires { reader.old.closed ≡ false }
     ensures { reader.new.closed ≡ false }
 {
     match reader.feed(piece) {
-        Ok(()) => 0,
-        Err(fault) => told_by(&fault).0,
+        Ok(()) => (0, 0),
+        Err(fault) => told_by(&fault),
     }
 }
 
 // The same at the end of the text.
-fn line_at_end(reader: &mut Reader) -> u32 {
+fn told_at_end(reader: &mut Reader) -> (u32, u32) {
     match reader.close() {
-        Ok(()) => 0,
-        Err(fault) => told_by(&fault).0,
+        Ok(()) => (0, 0),
+        Err(fault) => told_by(&fault),
     }
 }
 
 #[test]
 fn a_fault_stays(rt: HostRuntime) -> Result<(), Fail> {
     let mut reader = Reader::new(rt.alloc())?;
-    let before = line_at(&mut reader, b"T0|w(X)\nT0|rel");
-    let at_the_fault = line_at(&mut reader, b"(L)\nT0|w(X)\n");
-    let later = line_at(&mut reader, b"T0|w(X)\n");
-    let end = line_at_end(&mut reader);
-    assert_eq!(rt; [before, at_the_fault, later, end], [0, 2, 2, 2]);
+    let before = told_at(&mut reader, b"T0|w(X)\nT0|rel");
+    let at_the_fault = told_at(&mut reader, b"(L)\nT0|w(X)\n");
+    let later = told_at(&mut reader, b"T0|w\n");
+    let end = told_at_end(&mut reader);
+    assert_eq!(rt; before, (0, 0));
+    assert_eq!(rt; [at_the_fault, later, end], [(2, 13), (2, 13), (2, 13)]);
+    Ok(())
+}
+
+#[test]
+fn a_long_line_is_known_before_its_end(rt: HostRuntime) -> Result<(), Fail> {
+    let mut reader = Reader::new(rt.alloc())?;
+    let line = [b'0'; 4_096];
+    let before = told_at(&mut reader, &line);
+    let known = told_at(&mut reader, b"0");
+    assert_eq!(rt; [before, known], [(0, 0), (1, 1)]);
+    Ok(())
+}
+
+// Takes a piece so many times.
+fn feed_often(reader: &mut Reader, piece: &[u8], count: u32)
+    requires { reader.old.closed ≡ false }
+    ensures { reader.new.closed ≡ false }
+{
+    for _ in 0..count {
+        let _ = told_at(reader, piece);
+    }
+}
+
+#[test]
+fn an_input_at_its_limit(rt: HostRuntime) -> Result<(), Fail> {
+    let mut reader = Reader::new(rt.alloc())?;
+    feed_often(&mut reader, &[b'\n'; 4_096], 4_095);
+    let before = told_at(&mut reader, &[b'T'; 4_096]);
+    // This byte makes the input and its line too long.
+    let known = told_at(&mut reader, b"T");
+    assert_eq!(rt; [before, known], [(0, 0), (16_773_121, 6)]);
+    Ok(())
+}
+
+#[test]
+fn skipped_lines_name_nothing(rt: HostRuntime) -> Result<(), Fail> {
+    let text = b"T1|begin(m)|3\nT0|fork(T2)|4\nT3|end\nT2|w(X)|5\n";
+    let (trace, names) = read(rt.alloc(), text)?;
+    assert_eq!(rt; [trace.threads(), names.threads()], [2, 2]);
+    assert_eq!(rt; [trace.len(), names.locks(), names.vars()], [2, 0, 1]);
     Ok(())
 }
 
@@ -280,7 +415,7 @@ fn a_fault_stays(rt: HostRuntime) -> Result<(), Fail> {
 fn the_trace_and_the_names(rt: HostRuntime) -> Result<(), Fail> {
     let text = b"T0|acq(L)|1\nT1|w(X)|2\nT0|rel(L)|3\nT1|acq(M)|4";
     let (trace, names) = read(rt.alloc(), text)?;
-    holders_hold_the_locks(&trace);
+    computed_laws_are_the_laws(&trace);
     pieces_are_the_text();
     assert_eq!(rt; [trace.len(), names.locks(), names.vars()], [4, 2, 1]);
     assert_eq!(rt; [trace.threads(), names.threads()], [2, 2]);

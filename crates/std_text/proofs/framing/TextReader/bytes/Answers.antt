@@ -3,7 +3,7 @@ use Rattle.std_text.proofs.TextPieces.{after_none, more, failed_at}
 use Rattle.std_text.proofs.framing.TextReader.bytes.Goals as goal
 
 pub loop-byte-init : goal.loop-byte-init
-loop-byte-init c = rw (← c.self.view_is) (after_none _ c.self.invariant.1)
+loop-byte-init c = rw (← c.self.view_is) (after_none _ c.self.invariant.2 c.self.invariant.1)
 
 pub returns-in_err-byte : goal.returns-in_err-byte
 returns-in_err-byte c =

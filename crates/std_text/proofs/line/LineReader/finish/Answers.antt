@@ -1,0 +1,4 @@
+use Rattle.std_text.proofs.line.LineReader.finish.Goals as goal
+
+pub finish-requires-clause-named : goal.finish-requires-clause-named
+finish-requires-clause-named c = rw c.threads-threads.ensures c.self.invariant.named
