@@ -52,6 +52,15 @@ fn refused(err: &[u8]) -> Left<'_> {
     }
 }
 
+// What a run leaves for a text that passes a limit and is refused with this line.
+fn limited(err: &[u8]) -> Left<'_> {
+    Left {
+        out: b"",
+        err,
+        code: 4,
+    }
+}
+
 // Whether a run left this.
 fn is_left(status: Status, out: &MemSink, err: &MemSink, left: &Left) -> bool {
     status.code() == left.code && out.text() == left.out && err.text() == left.err
@@ -150,6 +159,24 @@ fn reports_of_traces(rt: HostRuntime) -> Result<(), Fail> {
             1,
         ),
         (
+            "a join that waits for the forker",
+            "T0|w(X)|1\nT0|fork(T2)|2\nT1|join(T2)|3\nT1|w(X)|4\n",
+            "races 0 deadlocks 0\n",
+            0,
+        ),
+        (
+            "a write behind a fork and one behind the join",
+            "T0|fork(T2)|1\nT0|w(X)|2\nT1|join(T2)|3\nT1|w(X)|4\n",
+            "race 3 with 1 at 4 2 keep 1 0 1\nraces 1 deadlocks 0\n",
+            1,
+        ),
+        (
+            "skipped lines and odd locations",
+            "T9|begin(m)|1\nT0|w(V234.23[0])|12\nT9|end\nT1|r(V234.23[0])|a|b\n",
+            "race 1 with 0 at 0 12 keep 0 0\nraces 1 deadlocks 0\n",
+            1,
+        ),
+        (
             "empty lines, carriage returns and no locations",
             "T0|w(X)\r\n\r\n\nT1|w(X)|7 \n\nT0|r(Y)",
             "race 1 with 0 at 0 0 keep 0 0\nraces 1 deadlocks 0\n",
@@ -175,52 +202,30 @@ fn reports_of_traces(rt: HostRuntime) -> Result<(), Fail> {
 fn refused_traces(rt: HostRuntime) -> Result<(), Fail> {
     let alloc = rt.alloc();
     for (case, text, err) in [
-        ("no bar", "T0 w(X)\n", "line 1 fault 4 UnknownOperation\n"),
-        ("no thread", "|w(X)\n", "line 1 fault 4 UnknownOperation\n"),
+        ("no bar", "T0 w(X)\n", "line 1 fault 2 NoBar\n"),
+        (
+            "no bar before a skipped word",
+            "T0\nbegin\n",
+            "line 1 fault 2 NoBar\n",
+        ),
+        ("no thread", "|w(X)\n", "line 1 fault 3 BadName\n"),
         (
             "a thread that is no name",
             "T(0)|w(X)\n",
-            "line 1 fault 4 UnknownOperation\n",
+            "line 1 fault 3 BadName\n",
         ),
         (
             "an unknown operation",
             "\nT0|write(X)\n",
             "line 2 fault 4 UnknownOperation\n",
         ),
+        ("no operand", "T0|w|1\n", "line 1 fault 5 BadOperand\n"),
+        ("an open operand", "T0|w(X", "line 1 fault 5 BadOperand\n"),
+        ("an empty operand", "T0|w()|1\n", "line 1 fault 3 BadName\n"),
         (
-            "a fork",
-            "T0|fork(T1)|1\n",
-            "line 1 fault 4 UnknownOperation\n",
-        ),
-        (
-            "a join",
-            "T0|join(T1)|1\n",
-            "line 1 fault 4 UnknownOperation\n",
-        ),
-        (
-            "a begin",
-            "T0|begin|1\n",
-            "line 1 fault 4 UnknownOperation\n",
-        ),
-        (
-            "an end",
-            "T0|end(m)|1\n",
-            "line 1 fault 4 UnknownOperation\n",
-        ),
-        (
-            "no operand",
-            "T0|w()|1\n",
-            "line 1 fault 4 UnknownOperation\n",
-        ),
-        (
-            "an open operand",
-            "T0|w(X",
-            "line 1 fault 4 UnknownOperation\n",
-        ),
-        (
-            "an operand that is no name",
+            "an operand with a parenthesis",
             "T0|w(X(0))|1\n",
-            "line 1 fault 4 UnknownOperation\n",
+            "line 1 fault 3 BadName\n",
         ),
         (
             "a lock that another thread holds",
@@ -230,7 +235,7 @@ fn refused_traces(rt: HostRuntime) -> Result<(), Fail> {
         (
             "a lock that the own thread holds",
             "T0|w(X)\nmain|acq(L)\n\nmain|acq(L)",
-            "line 4 fault 11 LockHeld main\n",
+            "line 4 fault 12 Reentrant\n",
         ),
         (
             "a lock that nobody holds",
@@ -241,6 +246,36 @@ fn refused_traces(rt: HostRuntime) -> Result<(), Fail> {
             "a lock that another thread releases",
             "T0|acq(L)\nT1|rel(L)\n",
             "line 2 fault 13 NotHeld\n",
+        ),
+        (
+            "a fork behind an event",
+            "T1|w(X)\nT0|fork(T1)\n",
+            "line 2 fault 14 ForkLate\n",
+        ),
+        (
+            "a second fork",
+            "T0|fork(T1)\nT0|fork(T1)\n",
+            "line 2 fault 15 ForkTwice\n",
+        ),
+        (
+            "a fork of the own thread",
+            "T0|fork(T0)\n",
+            "line 1 fault 16 SelfThread\n",
+        ),
+        (
+            "a join of the own thread",
+            "T0|join(T0)\n",
+            "line 1 fault 16 SelfThread\n",
+        ),
+        (
+            "an event behind the join",
+            "T0|join(T1)\nT1|w(X)\n",
+            "line 2 fault 17 AfterJoin\n",
+        ),
+        (
+            "a fork behind the join",
+            "T0|join(T1)\nT0|fork(T1)\n",
+            "line 2 fault 17 AfterJoin\n",
         ),
         (
             "two faults, of which the first is told",
@@ -285,17 +320,18 @@ fn threads(alloc: Global, count: u32) -> Result<Vec<u8>, AllocError> {
 #[test]
 fn traces_past_a_limit(rt: HostRuntime) -> Result<(), Fail> {
     let alloc = rt.alloc();
-    let first = refused(b"line 1 fault 4 UnknownOperation\n");
+    let name_fault = refused(b"line 1 fault 3 BadName\n");
+    let line_fault = refused(b"line 1 fault 1 LineTooLong\n");
     let mut name = repeated(alloc, b"T", 256)?;
     name.extend_from_slice(b"|w(X)\n")?;
     assert!(rt;
-        leaves(&rt, alloc, "predict", &name, 1_000, &first)?,
+        leaves(&rt, alloc, "predict", &name, 1_000, &name_fault)?,
         "a name of 256 bytes"
     );
     let mut line = repeated(alloc, b"T0|w(X)|", 1)?;
     line.extend_from_slice(&repeated(alloc, b"0", 4_089)?)?;
     assert!(rt;
-        leaves(&rt, alloc, "predict", &line, 1_000, &first)?,
+        leaves(&rt, alloc, "predict", &line, 1_000, &line_fault)?,
         "a line of 4,097 bytes"
     );
     Ok(())
@@ -304,7 +340,7 @@ fn traces_past_a_limit(rt: HostRuntime) -> Result<(), Fail> {
 #[test]
 fn threads_past_the_limit(rt: HostRuntime) -> Result<(), Fail> {
     let alloc = rt.alloc();
-    let last = refused(b"line 65 fault 4 UnknownOperation\n");
+    let last = limited(b"line 65 fault 8 TooManyThreads\n");
     let text = threads(alloc, 65)?;
     assert!(rt; leaves(&rt, alloc, "predict", &text, 1_000, &last)?);
     Ok(())
@@ -313,7 +349,7 @@ fn threads_past_the_limit(rt: HostRuntime) -> Result<(), Fail> {
 #[test]
 fn events_past_the_limit(rt: HostRuntime) -> Result<(), Fail> {
     let alloc = rt.alloc();
-    let last = refused(b"line 65537 fault 4 UnknownOperation\n");
+    let last = limited(b"line 65537 fault 7 TooManyEvents\n");
     let text = repeated(alloc, b"T0|r(X)\n", 65_537)?;
     assert!(rt; leaves(&rt, alloc, "predict", &text, 1_000, &last)?);
     Ok(())
@@ -324,16 +360,16 @@ fn bytes_past_the_limit(rt: HostRuntime) -> Result<(), Fail> {
     let alloc = rt.alloc();
     let mut text = repeated(alloc, &[b'\n'; 64], 262_144)?;
     text.push(b'\n')?;
-    let newline = refused(b"line 16777217 fault 4 UnknownOperation\n");
+    let newline = limited(b"line 16777217 fault 6 InputTooLong\n");
     assert!(rt;
-        leaves(&rt, alloc, &text, 65_536, &newline)?,
+        leaves(&rt, alloc, "predict", &text, 65_536, &newline)?,
         "one newline more"
     );
     text.truncate(16_777_215);
     text.extend_from_slice(b"T0")?;
-    let midst = refused(b"line 16777216 fault 4 UnknownOperation\n");
+    let midst = limited(b"line 16777216 fault 6 InputTooLong\n");
     assert!(rt;
-        leaves(&rt, alloc, &text, 65_536, &midst)?,
+        leaves(&rt, alloc, "predict", &text, 65_536, &midst)?,
         "one byte more in the midst of a line"
     );
     Ok(())
@@ -482,7 +518,7 @@ fn a_fault_of_the_text_before_one_of_the_source(rt: HostRuntime) -> Result<(), F
         &mut err,
         &OpenGate,
     );
-    let left = refused(b"line 1 fault 4 UnknownOperation\n");
+    let left = refused(b"line 1 fault 2 NoBar\n");
     assert!(rt; is_left(status, &out, &err, &left));
     Ok(())
 }
