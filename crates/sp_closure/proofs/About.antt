@@ -62,25 +62,9 @@ fork_from_about events u p h = let found = event_about events Forked p u h in op
 pub about_from_fork : (events : List Event) (u p : ℕ) → op_at events p ≡ Some (Fork u) → IsAbout events Forked u p
 about_from_fork events u p h = let found = event_of events p (Fork u) h in about_event events Forked p u found.0 found.1 (ap forked_of found.2)
 
--- a place about a lock acquires or releases it
-pub meets_from_about : (events : List Event) (l p : ℕ) → IsAbout events Lock l p → (op_at events p ≡ Some (Acquire l)) ⊎ (op_at events p ≡ Some (Release l))
-meets_from_about events l p h = let found = event_about events Lock p l h in go found.0.op (op_from_event events p found.0 found.1) found.2
-  where
-    go : (o : Op) → op_at events p ≡ Some o → lock_of o ≡ Some l → (op_at events p ≡ Some (Acquire l)) ⊎ (op_at events p ≡ Some (Release l))
-    go (Acquire k) at is = let same : k ≡ l = cc in inl cc
-    go (Release k) at is = let same : k ≡ l = cc in inr cc
-    go (Read x) at is = cc
-    go (Write x) at is = cc
-    go (Fork u) at is = cc
-    go (Join u) at is = cc
-
 -- an acquire of a lock is about it
 pub about_from_acquire : (events : List Event) (l p : ℕ) → op_at events p ≡ Some (Acquire l) → IsAbout events Lock l p
 about_from_acquire events l p h = let found = event_of events p (Acquire l) h in about_event events Lock p l found.0 found.1 (ap lock_of found.2)
-
--- so is a release
-pub about_from_release : (events : List Event) (l p : ℕ) → op_at events p ≡ Some (Release l) → IsAbout events Lock l p
-about_from_release events l p h = let found = event_of events p (Release l) h in about_event events Lock p l found.0 found.1 (ap lock_of found.2)
 
 -- the threads of a trace are below their number
 pub threads_below : (events : List Event) (threads : ℕ) → AreNamedBelow events threads → AreBelow events Thread threads

@@ -8,7 +8,7 @@ use Rattle.trace_laws.specs.Trace.{Before}
 use Rattle.trace_laws.specs.Closed.{ClosedSet, HoldsAll}
 use Rattle.trace_laws.proofs.Places.{three_way}
 use Rattle.sp_closure.specs.Cuts.{IsHeld, raised, Admits}
-use Rattle.sp_closure.specs.Indexes.{IsOf}
+use Rattle.sp_closure.specs.Paths.{IsOf}
 
 -- the raised cut
 raised_same : (cuts : List ℕ) (t b : ℕ) → t < length cuts → slice_index (raised cuts t b) t ≡ max (slice_index cuts t) b

@@ -6,7 +6,7 @@ use Rattle.std.proofs.lemmas.Option.{unwrap_or-slice_get}
 use Rattle.trace_laws.specs.Event.{Event}
 use Rattle.trace_laws.proofs.Growing.{slice_get-set_same, slice_get-set_other}
 use Rattle.trace_laws.proofs.Tables.{slice_get-replicate_only}
-use Rattle.sp_closure.specs.Indexes.{IsFirstOf}
+use Rattle.sp_closure.specs.Paths.{IsFirstOf}
 
 -- each number is zero
 pub all_zero : (xs : List ℕ) (n : ℕ) → xs ≡ replicate {A = ℕ} n 0 → (t : ℕ) → slice_index xs t ≡ 0

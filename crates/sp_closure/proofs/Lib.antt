@@ -1,7 +1,6 @@
 pub mod About
 pub mod Linking
-pub mod Writing
-pub mod Sections
+pub mod Ties
 pub mod Flags
 pub mod Admissions
 pub mod Sides

@@ -10,7 +10,7 @@ use Rattle.trace_laws.specs.Traces.{AreNamedBelow}
 use Rattle.trace_laws.proofs.Places.{three_way, mapped_from}
 use Rattle.trace_laws.proofs.Growing.{slice_get-set_same, slice_get-set_other}
 use Rattle.sp_closure.specs.Tables.{IsFirst}
-use Rattle.sp_closure.specs.Indexes.{IsOf, IsFirstOf}
+use Rattle.sp_closure.specs.Paths.{IsOf, IsFirstOf}
 use Rattle.sp_closure.specs.Progress.{IsTakenUp, left, left_in_all}
 
 -- the front of a thread moves to the next place of the thread

@@ -6,8 +6,8 @@ use Rattle.trace_laws.specs.declared.event.Op.TheVariants.{Fork, Join}
 use Rattle.trace_laws.specs.Trace.{thread_at, op_at, Before, IsReleaseOf}
 use Rattle.trace_laws.specs.Closed.{Brings}
 use Rattle.trace_laws.proofs.Places.{op_from_event, thread_from_event}
-use Rattle.sp_closure.specs.Tables.{IsWriterOfRead}
-use Rattle.sp_closure.specs.Indexes.{IsOf}
+use Rattle.sp_closure.specs.Needs.{IsWriterOfRead}
+use Rattle.sp_closure.specs.Paths.{IsOf}
 use Rattle.sp_closure.specs.Needs.{IsThreadBefore, IsJoinedBefore, IsReleaseOfEarlier, Needs}
 
 -- what stands before the place is of the thread, or forks it

@@ -17,7 +17,7 @@ use Rattle.sp_closure.specs.declared.state.State.{State}
 use Rattle.sp_closure.specs.declared.subjects.Subject.TheVariants.{Lock}
 use Rattle.sp_closure.specs.Subjects.{lock_of, AreBelow}
 use Rattle.sp_closure.specs.Tables.{IsFirst}
-use Rattle.sp_closure.specs.Indexes.{IsOf}
+use Rattle.sp_closure.specs.Paths.{IsOf}
 use Rattle.sp_closure.specs.Cuts.{IsHeld, Admits}
 use Rattle.sp_closure.specs.Needs.{Needs}
 use Rattle.sp_closure.specs.Progress.{IsTakenUp, IsTakenUpOf, IsTakenAcquire, IsLatest, latest_of, IsUnderWay, IsPending, TakesUp, left_in_all}

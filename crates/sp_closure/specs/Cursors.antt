@@ -6,8 +6,8 @@ use Rattle.sp_closure.specs.Progress.{IsAtRest}
 
 -- the trace, and the places below the cuts
 abbrev pub set_in : Inside → PlaceSet
-set_in c = record { trace = c.index; members = flags_of c.index.events c.state.cuts }
+set_in c = record { trace = c.paths; members = flags_of c.paths.events c.state.cuts }
 
 -- the set is taken up whole
 abbrev pub IsSound : Inside → Type 0
-IsSound c = IsAtRest c.index.events c.index.threads c.state
+IsSound c = IsAtRest c.paths.events c.paths.threads c.state

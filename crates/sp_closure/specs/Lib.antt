@@ -1,7 +1,7 @@
 pub mod Members
 pub mod Subjects
 pub mod Tables
-pub mod Indexes
+pub mod Paths
 pub mod Cuts
 pub mod Needs
 pub mod Progress

@@ -3,7 +3,7 @@ use Rattle.std.specs.Prelude.{◌≡◌, ◌<◌, ◌⊎◌, ℕ, min, List, Opt
 use Rattle.trace_laws.specs.Event.{Event}
 use Rattle.trace_laws.specs.declared.event.Op.{Op}
 use Rattle.trace_laws.specs.declared.event.Op.TheVariants.{Fork, Join}
-use Rattle.trace_laws.specs.Trace.{thread_at, op_at, IsReleaseOf}
+use Rattle.trace_laws.specs.Trace.{thread_at, op_at, Reads, IsLastWrite, IsReleaseOf}
 use Rattle.trace_laws.specs.Closed.{Brings}
 
 -- place i stands before the place, and is of thread u or forks it
@@ -16,6 +16,12 @@ pub record IsJoinedBefore (events : List Event) (op : Op) (place i : ℕ) : Type
   pub joined : ℕ
   pub is_join : op ≡ Join joined
   pub before : IsThreadBefore events joined place i
+
+-- w is the writer of the read at place r
+pub record IsWriterOfRead (events : List Event) (r w : ℕ) : Type 0 where
+  pub var : ℕ
+  pub reads : Reads events r var
+  pub last : IsLastWrite events ◌<◌ r var w
 
 -- place c is the release of the earlier of two acquires, the place and one that is given
 pub record IsReleaseOfEarlier (events : List Event) (given : Option ℕ) (place c : ℕ) : Type 0 where

@@ -11,7 +11,7 @@ use Rattle.trace_laws.specs.Findings.{HasCount}
 use Rattle.sp_closure.specs.declared.state.State.{State}
 use Rattle.sp_closure.specs.declared.subjects.Subject.TheVariants.{Lock}
 use Rattle.sp_closure.specs.Subjects.{AreBelow}
-use Rattle.sp_closure.specs.Indexes.{IsOf, IsFirstOf, IsNextOf}
+use Rattle.sp_closure.specs.Paths.{IsOf, IsFirstOf, IsNextOf}
 use Rattle.sp_closure.specs.Cuts.{IsHeld, Admits}
 use Rattle.sp_closure.specs.Needs.{Needs}
 

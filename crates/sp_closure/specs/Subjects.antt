@@ -1,10 +1,10 @@
--- What events are about: threads, locks and variables, by their numbers.
+-- What events are about: threads and locks, by their numbers.
 use Rattle.std.specs.Prelude.{◌≡◌, ◌<◌, ℕ, List, Option, Some, None, slice_get, option_and_then}
 use Rattle.trace_laws.specs.Event.{Event}
 use Rattle.trace_laws.specs.declared.event.Op.{Op}
-use Rattle.trace_laws.specs.declared.event.Op.TheVariants.{Read, Write, Acquire, Release, Fork}
+use Rattle.trace_laws.specs.declared.event.Op.TheVariants.{Acquire, Release, Fork}
 use Rattle.sp_closure.specs.declared.subjects.Subject.{Subject}
-use Rattle.sp_closure.specs.declared.subjects.Subject.TheVariants.{Thread, Lock, Forked, Variable}
+use Rattle.sp_closure.specs.declared.subjects.Subject.TheVariants.{Thread, Lock, Forked}
 
 -- the lock that an operation acquires or releases
 abbrev pub lock_of : Op → Option ℕ
@@ -17,18 +17,11 @@ abbrev pub forked_of : Op → Option ℕ
 forked_of (Fork u) = Some u
 forked_of _ = None
 
--- the variable that an operation reads or writes
-abbrev pub variable_of : Op → Option ℕ
-variable_of (Read x) = Some x
-variable_of (Write x) = Some x
-variable_of _ = None
-
 -- the number of an event's subject, where it has one of that kind
 abbrev pub number_of : Subject → Event → Option ℕ
 number_of Thread e = Some e.thread
 number_of Lock e = lock_of e.op
 number_of Forked e = forked_of e.op
-number_of Variable e = variable_of e.op
 
 -- the event at place p is about the subject of number k
 abbrev pub IsAbout : List Event → Subject → ℕ → ℕ → Type 0

@@ -5,18 +5,18 @@ ghost use Rattle.trace_laws.specs.Trace.{Before};
 ghost use Rattle.trace_laws.specs.Closed.{IsClosure};
 ghost use Rattle.sp_closure.specs.Members.{has, AreCounts, IsEmpty};
 
-use crate::index::Index;
+use crate::paths::Paths;
 use crate::state::State;
 use sp_base::OutOfMemory;
 use std::alloc::{AllocError, Global};
 use std::marker::Model;
-use trace_laws::Trace;
+use trace_index::Index;
 
 /// A closed set of places of a trace, and how many members each thread has. Growing it from nothing to the whole trace
 /// takes about as many steps as the trace has events.
 #[derive(Drop)]
 pub struct Cursor<'a> {
-    index: Index<'a>,
+    paths: Paths<'a>,
     state: State,
 }
 
@@ -33,25 +33,25 @@ impl<'a> Model for Cursor<'a> {
 }
 
 impl<'a> Cursor<'a> {
-    /// The empty set of places of a trace. The only error is want of memory.
-    pub fn new(alloc: Global, trace: &'a Trace) -> Result<Cursor<'a>, OutOfMemory>
-        ensures trace { IfOk result (λ cursor. cursor.trace ≡ trace.now) }
+    /// The empty set of places of the trace of an index. The only error is want of memory.
+    pub fn new(alloc: Global, index: &'a Index<'a>) -> Result<Cursor<'a>, OutOfMemory>
+        ensures trace { IfOk result (λ cursor. cursor.trace ≡ index.now) }
         ensures empty { IfOk result (λ cursor. IsEmpty cursor.members) }
     {
-        match Cursor::with_room(alloc, trace) {
+        match Cursor::with_room(alloc, index) {
             Ok(cursor) => Ok(cursor),
             Err(_) => Err(OutOfMemory),
         }
     }
 
     // The same, with the error of the allocator.
-    fn with_room(alloc: Global, trace: &'a Trace) -> Result<Cursor<'a>, AllocError>
-        ensures trace { IfOk result (λ cursor. cursor.trace ≡ trace.now) }
+    fn with_room(alloc: Global, index: &'a Index<'a>) -> Result<Cursor<'a>, AllocError>
+        ensures trace { IfOk result (λ cursor. cursor.trace ≡ index.now) }
         ensures empty { IfOk result (λ cursor. IsEmpty cursor.members) }
     {
-        let index = Index::new(alloc, trace)?;
-        let state = State::new(alloc, &index)?;
-        Ok(Cursor { index, state })
+        let paths = Paths::new(alloc, index)?;
+        let state = State::new(alloc, &paths)?;
+        Ok(Cursor { paths, state })
     }
 
     /// The set becomes the least closed set that holds it and all places before the place in program order.
@@ -60,7 +60,7 @@ impl<'a> Cursor<'a> {
         ensures trace { self.new.trace ≡ self.old.trace }
         ensures closure { IsClosure self.old.trace.events (λ i. IsTrue (has self.old.members i) ⊎ Before self.old.trace.events i place) (has self.new.members) }
     {
-        self.state.raise(&self.index, place);
+        self.state.raise(&self.paths, place);
     }
 
     /// Whether the place is in the set.
@@ -68,7 +68,7 @@ impl<'a> Cursor<'a> {
         requires { place < length self.now.trace.events }
         ensures { result ≡ has self.now.members place }
     {
-        self.state.has(&self.index, place)
+        self.state.has(&self.paths, place)
     }
 
     /// How many members each thread has: a number for each thread of the trace.
@@ -83,6 +83,6 @@ impl<'a> Cursor<'a> {
         ensures trace { self.new.trace ≡ self.old.trace }
         ensures empty { IsEmpty self.new.members }
     {
-        self.state.restart(&self.index);
+        self.state.restart(&self.paths);
     }
 }

@@ -1,9 +1,9 @@
 // How far the places of each thread were taken up.
 ghost use Rattle.std.specs.Prelude.{ℕ, Option, ◌≡◌, ◌<◌, length, IfOk, Some, slice_get, slice_set};
-ghost use Rattle.sp_closure.specs.Indexes.{IsFirstOf};
+ghost use Rattle.sp_closure.specs.Paths.{IsFirstOf};
 
-use crate::index::Index;
 use crate::links::entry;
+use crate::paths::Paths;
 use sp_base::ThreadId;
 use std::alloc::{AllocError, Global};
 use std::marker::Model;
@@ -24,25 +24,25 @@ impl Model for Fronts {
 
 impl Fronts {
     /// Fronts that stand at the first places.
-    pub fn new(alloc: Global, index: &Index) -> Result<Fronts, AllocError>
-        ensures size { IfOk result (λ fronts. length fronts ≡ index.now.threads) }
-        ensures first { IfOk result (λ fronts. (t : ℕ) (o : Option ℕ) → slice_get fronts t ≡ Some o → IsFirstOf index.now.events t o) }
+    pub fn new(alloc: Global, paths: &Paths) -> Result<Fronts, AllocError>
+        ensures size { IfOk result (λ fronts. length fronts ≡ paths.now.threads) }
+        ensures first { IfOk result (λ fronts. (t : ℕ) (o : Option ℕ) → slice_get fronts t ≡ Some o → IsFirstOf paths.now.events t o) }
     {
         let mut fronts = Fronts {
-            places: vec![in alloc; None; index.threads() as usize]?,
+            places: vec![in alloc; None; paths.threads() as usize]?,
         };
-        fronts.rewind(index);
+        fronts.rewind(paths);
         Ok(fronts)
     }
 
     /// The fronts stand at the first places again.
-    pub fn rewind(&mut self, index: &Index)
-        requires { length self.old ≡ index.now.threads }
+    pub fn rewind(&mut self, paths: &Paths)
+        requires { length self.old ≡ paths.now.threads }
         ensures size { length self.new ≡ length self.old }
-        ensures first { (t : ℕ) (o : Option ℕ) → slice_get self.new t ≡ Some o → IsFirstOf index.now.events t o }
+        ensures first { (t : ℕ) (o : Option ℕ) → slice_get self.new t ≡ Some o → IsFirstOf paths.now.events t o }
     {
-        for thread in 0..index.threads() {
-            self.places[thread as usize] = index.first(thread);
+        for thread in 0..paths.threads() {
+            self.places[thread as usize] = paths.first(thread);
         }
     }
 

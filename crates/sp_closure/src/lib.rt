@@ -9,13 +9,12 @@ mod admitting;
 mod cursor;
 mod cuts;
 mod fronts;
-mod index;
 mod latest;
 mod links;
+mod paths;
 mod state;
 mod subjects;
 #[cfg(test)]
 mod tests;
-mod writers;
 
 pub use cursor::Cursor;

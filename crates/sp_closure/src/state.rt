@@ -9,8 +9,8 @@ ghost use Rattle.sp_closure.specs.Progress.{IsUnderWay, IsAtRest, IsFresh, IsPen
 use crate::admitting::{admit_before, admit_needs};
 use crate::cuts::Cuts;
 use crate::fronts::Fronts;
-use crate::index::Index;
 use crate::latest::Latest;
+use crate::paths::Paths;
 use std::alloc::{AllocError, Global};
 
 /// A set of places by cuts, and how far its places were taken up: for each thread the first place that was not,
@@ -25,35 +25,35 @@ pub struct State {
 
 impl State {
     /// The empty set.
-    pub fn new(alloc: Global, index: &Index) -> Result<State, AllocError>
-        ensures { IfOk result (IsFresh index.now.events index.now.threads) }
+    pub fn new(alloc: Global, paths: &Paths) -> Result<State, AllocError>
+        ensures { IfOk result (IsFresh paths.now.events paths.now.threads) }
     {
         Ok(State {
-            cuts: Cuts::new(alloc, index.threads())?,
-            fronts: Fronts::new(alloc, index)?,
-            latest: Latest::new(alloc, index.locks())?,
-            counts: vec![in alloc; 0; index.threads() as usize]?,
+            cuts: Cuts::new(alloc, paths.threads())?,
+            fronts: Fronts::new(alloc, paths)?,
+            latest: Latest::new(alloc, paths.locks())?,
+            counts: vec![in alloc; 0; paths.threads() as usize]?,
         })
     }
 
     /// The set becomes empty.
-    pub fn restart(&mut self, index: &Index)
-        requires { IsUnderWay index.now.events index.now.threads self.old }
-        ensures { IsFresh index.now.events index.now.threads self.new }
+    pub fn restart(&mut self, paths: &Paths)
+        requires { IsUnderWay paths.now.events paths.now.threads self.old }
+        ensures { IsFresh paths.now.events paths.now.threads self.new }
     {
         self.cuts.clear();
-        self.fronts.rewind(index);
+        self.fronts.rewind(paths);
         self.latest.clear();
         self.counts.fill(0);
     }
 
     /// Whether the place is in the set.
-    pub fn has(&self, index: &Index, place: u32) -> bool
-        requires size { length self.now.cuts ≡ index.now.threads }
-        requires place { place < length index.now.events }
-        ensures { result ≡ has (flags_of index.now.events self.now.cuts) place }
+    pub fn has(&self, paths: &Paths, place: u32) -> bool
+        requires size { length self.now.cuts ≡ paths.now.threads }
+        requires place { place < length paths.now.events }
+        ensures { result ≡ has (flags_of paths.now.events self.now.cuts) place }
     {
-        let event = index.event(place);
+        let event = paths.event(place);
         place < self.cuts.cut(event.thread.value())
     }
 
@@ -94,54 +94,54 @@ impl State {
     }
 
     // Takes up the place: admits what it needs, and notes it.
-    fn take_up(&mut self, index: &Index, place: u32)
-        requires way { IsUnderWay index.now.events index.now.threads self.old }
+    fn take_up(&mut self, paths: &Paths, place: u32)
+        requires way { IsUnderWay paths.now.events paths.now.threads self.old }
         requires pending { (t : ℕ) × IsPending self.old t place }
-        ensures { TakesUp index.now.events place self.old self.new }
+        ensures { TakesUp paths.now.events place self.old self.new }
     {
-        let event = index.event(place);
+        let event = paths.event(place);
         let latest = self.latest.of(&event);
-        admit_needs(index, &mut self.cuts, latest, place);
+        admit_needs(paths, &mut self.cuts, latest, place);
         self.latest.note(&event, place);
         self.counts[event.thread.value() as usize] += 1;
-        self.fronts.set(event.thread, index.next(place));
+        self.fronts.set(event.thread, paths.next(place));
     }
 
     // Takes up the place, and then each further place of its thread that is in the set.
-    fn take_up_thread(&mut self, index: &Index, place: u32)
-        requires way { IsUnderWay index.now.events index.now.threads self.old }
+    fn take_up_thread(&mut self, paths: &Paths, place: u32)
+        requires way { IsUnderWay paths.now.events paths.now.threads self.old }
         requires pending { (t : ℕ) × IsPending self.old t place }
-        ensures way { IsUnderWay index.now.events index.now.threads self.new }
-        ensures grows { Admits index.now.events (λ _. ⊥) self.old.cuts self.new.cuts }
-        ensures less { left_in_all (length index.now.events) self.new.fronts < left_in_all (length index.now.events) self.old.fronts }
+        ensures way { IsUnderWay paths.now.events paths.now.threads self.new }
+        ensures grows { Admits paths.now.events (λ _. ⊥) self.old.cuts self.new.cuts }
+        ensures less { left_in_all (length paths.now.events) self.new.fronts < left_in_all (length paths.now.events) self.old.fronts }
     {
-        let event = index.event(place);
+        let event = paths.event(place);
         let thread = event.thread.value();
-        self.take_up(index, place);
+        self.take_up(paths, place);
         while let Some(next) = self.pending(thread) {
-            self.take_up(index, next);
+            self.take_up(paths, next);
         }
     }
 
     // Takes up places until each one of the set is taken up.
-    fn close(&mut self, index: &Index)
-        requires { IsUnderWay index.now.events index.now.threads self.old }
-        ensures rest { IsAtRest index.now.events index.now.threads self.new }
-        ensures closure { IsClosure index.now.events (IsHeld index.now.events self.old.cuts) (has (flags_of index.now.events self.new.cuts)) }
+    fn close(&mut self, paths: &Paths)
+        requires { IsUnderWay paths.now.events paths.now.threads self.old }
+        ensures rest { IsAtRest paths.now.events paths.now.threads self.new }
+        ensures closure { IsClosure paths.now.events (IsHeld paths.now.events self.old.cuts) (has (flags_of paths.now.events self.new.cuts)) }
     {
-        while let Some(place) = self.next_pending(index.threads()) {
-            self.take_up_thread(index, place);
+        while let Some(place) = self.next_pending(paths.threads()) {
+            self.take_up_thread(paths, place);
         }
     }
 
     /// The set becomes the least closed set that holds it and all places before the place in program order.
-    pub fn raise(&mut self, index: &Index, place: u32)
-        requires rest { IsAtRest index.now.events index.now.threads self.old }
-        requires place { place < length index.now.events }
-        ensures rest { IsAtRest index.now.events index.now.threads self.new }
-        ensures closure { IsClosure index.now.events (λ i. IsTrue (has (flags_of index.now.events self.old.cuts) i) ⊎ Before index.now.events i place) (has (flags_of index.now.events self.new.cuts)) }
+    pub fn raise(&mut self, paths: &Paths, place: u32)
+        requires rest { IsAtRest paths.now.events paths.now.threads self.old }
+        requires place { place < length paths.now.events }
+        ensures rest { IsAtRest paths.now.events paths.now.threads self.new }
+        ensures closure { IsClosure paths.now.events (λ i. IsTrue (has (flags_of paths.now.events self.old.cuts) i) ⊎ Before paths.now.events i place) (has (flags_of paths.now.events self.new.cuts)) }
     {
-        admit_before(index, &mut self.cuts, place);
-        self.close(index);
+        admit_before(paths, &mut self.cuts, place);
+        self.close(paths);
     }
 }

@@ -1,18 +1,16 @@
 // What events are about.
 ghost use Rattle.std.specs.Prelude.{◌≡◌, ◌<◌, ◌≤◌, length, IfSome};
 ghost use Rattle.trace_laws.specs.Traces.{IsTrace};
-ghost use Rattle.sp_closure.specs.Subjects.{lock_of, forked_of, variable_of, number_of, AreBelow};
+ghost use Rattle.sp_closure.specs.Subjects.{lock_of, forked_of, number_of, AreBelow};
 
 use trace_laws::{Event, Op, Trace};
 
-/// What an event may be about: its own thread, the lock that it acquires or releases, the thread that it forks, or
-/// the variable that it reads or writes.
+/// What an event may be about: its own thread, the lock that it acquires or releases, or the thread that it forks.
 #[derive(Clone, Copy)]
 pub enum Subject {
     Thread,
     Lock,
     Forked,
-    Variable,
 }
 
 // The lock that the event acquires or releases.
@@ -37,17 +35,6 @@ fn forked_of(event: &Event) -> Option<u32>
     }
 }
 
-// The variable that the event reads or writes.
-fn variable_of(event: &Event) -> Option<u32>
-    ensures number { result ≡ variable_of event.now.op }
-    ensures below { IfSome result (λ number. number < u32.MAX) }
-{
-    match &event.op {
-        Op::Read(variable) | Op::Write(variable) => Some(variable.value()),
-        _ => None,
-    }
-}
-
 /// The number of the event's subject, if it has one of that kind.
 pub fn number_of(subject: Subject, event: &Event) -> Option<u32>
     ensures number { result ≡ number_of subject event.now }
@@ -57,7 +44,6 @@ pub fn number_of(subject: Subject, event: &Event) -> Option<u32>
         Subject::Thread => Some(u32::from(event.thread.value())),
         Subject::Lock => lock_of(event),
         Subject::Forked => forked_of(event),
-        Subject::Variable => variable_of(event),
     }
 }
 

@@ -7,6 +7,7 @@ use sp_base::{LockId, ThreadId, VarId};
 use std::alloc::Global;
 use std::process::Abort;
 use std::test::Fail;
+use trace_index::Index;
 use trace_laws::{Builder, Event, Op, Trace};
 
 // Adds an event of one of two threads.
@@ -62,7 +63,8 @@ fn test_has(rt: &impl Abort, trace: &Trace, cursor: &Cursor<'_>, place: u32, wan
 #[test]
 fn cursor_grows(rt: HostRuntime) -> Result<(), Fail> {
     let trace = two_sections(&rt, rt.alloc());
-    let mut cursor = Cursor::new(rt.alloc(), &trace).expect(&rt, "room");
+    let index = Index::build(rt.alloc(), &trace).expect(&rt, "room");
+    let mut cursor = Cursor::new(rt.alloc(), &index).expect(&rt, "room");
     raise(&rt, &trace, &mut cursor, 0, 0, 0);
     raise(&rt, &trace, &mut cursor, 5, 1, 1);
     test_has(&rt, &trace, &cursor, 1, false);

@@ -1,43 +1,20 @@
 -- The races of the places so far.
-use Rattle.std.proofs.Common.{◌≡◌, ℕ, ◌+◌, ◌<◌, ◌≤◌, Bool, true, List, [], ◌∷◌, ◌++◌, length, map, ◌⊎◌, inl, inr, sym, subst, ◌∙◌, arith, Some}
-use Rattle.std.specs.Prelude.{Contains, ◌↔◌, All, AllPairs}
+use Rattle.std.proofs.Common.{◌≡◌, ℕ, ◌+◌, ◌<◌, ◌≤◌, List, [], ◌∷◌, ◌++◌, length, map, ◌⊎◌, inl, inr, refl, sym, subst, ◌∙◌, arith}
+use Rattle.std.specs.Prelude.{Contains, All, AllPairs}
+use Rattle.sp_base.specs.declared.limits.TheConstants.{MAX_VARS}
 use Rattle.std.proofs.lemmas.List.{map-append}
 use Rattle.std.proofs.lemmas.List.Elements.{All-push, Contains-push, Contains-append_left}
 use Rattle.std.proofs.lemmas.List.Quantifiers.{all_pairs_push}
 use Rattle.trace_laws.specs.Event.{Event}
-use Rattle.trace_laws.specs.Trace.{thread_at, Lawful}
-use Rattle.trace_laws.specs.Reordering.{IsNeeded}
-use Rattle.trace_laws.specs.Findings.{Races, FoundRace, IsFoundRace, IsKeep, HasCount, by_reorderings}
-use Rattle.trace_laws.specs.Closed.{IsClosureBefore}
-use Rattle.trace_laws.proofs.Places.{three_way, within_from_thread, contains_none, contains_head, contains_tail}
-use Rattle.trace_laws.proofs.Enabling.{conflict_within, races_outside_closure_lem, needed_are_the_closure_lem}
+use Rattle.trace_laws.specs.Findings.{Races, FoundRace, IsFoundRace, by_reorderings}
 use Rattle.trace_laws.specs.Traces.{History}
-use Rattle.sp_closure.specs.Members.{PlaceSet, has, IsMemberOf, AreCounts}
+use Rattle.trace_laws.proofs.Places.{three_way, contains_none, contains_head, contains_tail}
+use Rattle.trace_laws.proofs.Enabling.{conflict_within}
+use Rattle.trace_index.specs.Accessed.{AreVariablesBelow}
+use Rattle.trace_index.proofs.Accessing.{access_within}
+use Rattle.race_scan.specs.Scans.{Scan, NoRaceBetween, IsNextRace}
 use Rattle.syncp.specs.declared.scan.Prediction.{Prediction}
-use Rattle.syncp.specs.Predictions.{found_race, ArePredictions, NoRaceBelow}
-
--- properties that say the same have one count
-count_under : (P Q : ℕ → Type 0) (n : ℕ) → ((p : ℕ) → P p ↔ Q p) → HasCount P n → HasCount Q n
-count_under P Q n same h = record {
-  places = h.places;
-  order = h.order;
-  members = λ p. (λ c. (same p).0 ((h.members p).0 c), λ q. (h.members p).1 ((same p).1 q));
-  size = h.size;
-}
-
--- the counts of the closure before a race are its keep
-pub keep_of : (trace : List Event) (threads e1 e2 : ℕ) (set : ℕ → Bool) (counts : List ℕ) → Lawful trace → Races trace e1 e2 → IsClosureBefore trace (e1 ∷ e2 ∷ []) set → AreCounts trace threads set counts
-    → IsKeep trace threads (by_reorderings trace) (e1 ∷ e2 ∷ []) counts
-keep_of trace threads e1 e2 set counts lawful race closure c = record {
-  size = c.size;
-  counts = λ t less. count_under (IsMemberOf trace t set) (λ p. (thread_at trace p ≡ Some t) × IsNeeded trace (e1 ∷ e2 ∷ []) p) _ (same t) (c.members t less);
-}
-  where
-    needed : (p : ℕ) → IsNeeded trace (e1 ∷ e2 ∷ []) p ↔ ((p < length trace) × (set p ≡ true))
-    needed = needed_are_the_closure_lem trace lawful (e1 ∷ e2 ∷ []) set (conflict_within trace e1 e2 race.conflict) closure ((races_outside_closure_lem trace lawful e1 e2 set closure).0 race).1
-
-    same : (t p : ℕ) → IsMemberOf trace t set p ↔ ((thread_at trace p ≡ Some t) × IsNeeded trace (e1 ∷ e2 ∷ []) p)
-    same t p = (λ m. (m.0, (needed p).1 (within_from_thread trace p t m.0, m.1)), λ q. (q.0, ((needed p).0 q.1).1))
+use Rattle.syncp.specs.Predictions.{found_race, ArePredictions}
 
 -- the races of the places below a number
 pub record Scanned (trace : List Event) (threads later : ℕ) (found : List FoundRace) : Type 0 where
@@ -55,19 +32,19 @@ scanned_none trace threads = record {
   all = λ e1 e2 less within race. absurd (omega arith);
 }
 
--- a place that races with no earlier one
-pub scanned_past : (trace : List Event) (threads later : ℕ) (found : List FoundRace) → Scanned trace threads later found → ((e : ℕ) → e < later → Races trace e later → ⊥) → Scanned trace threads (later + 1) found
-scanned_past trace threads later found s none = record {
+-- places that race with no earlier one
+pub scanned_past : (trace : List Event) (threads later next : ℕ) (found : List FoundRace) → Scanned trace threads later found → later ≤ next → ((e1 e2 : ℕ) → later ≤ e2 → e2 < next → e1 < e2 → Races trace e1 e2 → ⊥) → Scanned trace threads next found
+scanned_past trace threads later next found s le none = record {
   order = s.order;
   below = λ k d less. let b = s.below k d less in omega arith;
   races = s.races;
   all = λ e1 e2 less within race. at e1 e2 less race (three_way e2 later) within;
 }
   where
-    at : (e1 e2 : ℕ) → e1 < e2 → Races trace e1 e2 → (e2 < later) ⊎ ((e2 ≡ later) ⊎ (later < e2)) → e2 < later + 1 → Contains (map (λ (r : FoundRace). r.later) found) e2
+    at : (e1 e2 : ℕ) → e1 < e2 → Races trace e1 e2 → (e2 < later) ⊎ ((e2 ≡ later) ⊎ (later < e2)) → e2 < next → Contains (map (λ (r : FoundRace). r.later) found) e2
     at e1 e2 less race (inl before) _ = s.all e1 e2 less before race
-    at e1 e2 less race (inr (inl same)) _ = absurd (none e1 (omega arith) (subst (λ (k : ℕ). Races trace e1 k) same race))
-    at e1 e2 less race (inr (inr more)) within = absurd (omega arith)
+    at e1 e2 less race (inr (inl same)) within = absurd (none e1 e2 (omega arith) within less race)
+    at e1 e2 less race (inr (inr more)) within = absurd (none e1 e2 (omega arith) within less race)
 
 -- a place that races
 pub scanned_one : (trace : List Event) (threads later : ℕ) (found : List FoundRace) (f : FoundRace) → Scanned trace threads later found → f.later ≡ later → IsFoundRace trace threads (by_reorderings trace) f → Scanned trace threads (later + 1) (found ++ f ∷ [])
@@ -96,20 +73,42 @@ predicted h later found all s = record {
   deadlocks = tt;
 }
 
--- one race with the counts of a cursor that was raised by both places
-pub found_by_cursor : (trace : History) (old cursor : PlaceSet) (e l : ℕ) (counts keep : List ℕ) → Lawful trace.events → old.trace ≡ trace → cursor.trace ≡ old.trace → e < l → Races trace.events e l → NoRaceBelow trace.events l e
-    → IsClosureBefore old.trace.events (e ∷ l ∷ []) (has cursor.members) → AreCounts cursor.trace.events cursor.trace.threads (has cursor.members) counts → keep ≡ counts
-    → IsFoundRace trace.events trace.threads (by_reorderings trace.events) (record { later = l; earlier = e; keep = keep })
-found_by_cursor trace old cursor e l counts keep lawful was is less race earliest closure c same = record {
-  order = less;
+-- where all variables are in the range, a race is in it
+no_race_from : (trace : List Event) (start until : ℕ) → AreVariablesBelow trace MAX_VARS → NoRaceBetween trace 0 MAX_VARS start until → (e1 e2 : ℕ) → start ≤ e2 → e2 < until → e1 < e2 → Races trace e1 e2 → ⊥
+no_race_from trace start until variables none e1 e2 after less order race = none e2 after less (record {
+  range = record { var = race.conflict.var; accesses = race.conflict.second; least = omega arith; below = variables e2 race.conflict.var race.conflict.second };
+  earlier = e1;
+  order = order;
   race = race;
-  earliest = earliest;
-  keep = subst (IsKeep trace.events trace.threads (by_reorderings trace.events) (e ∷ l ∷ [])) (sym same) (keep_of trace.events trace.threads e l (has cursor.members) counts lawful race
-      (subst (λ (t : History). IsClosureBefore t.events (e ∷ l ∷ []) (has cursor.members)) was closure)
-      (subst (λ (t : History). AreCounts t.events t.threads (has cursor.members) counts) (is ∙ was) c));
-}
+})
+
+-- a scan of all variables
+pub record IsOfAll (trace : History) (scan : Scan) : Type 0 where
+  pub along : scan.trace ≡ trace
+  pub least : scan.from ≡ 0
+  pub greatest : scan.to ≡ MAX_VARS
+
+-- what it has not passed up to a place does not race
+none_of_all : (trace : History) (scan : Scan) (until : ℕ) → IsOfAll trace scan → NoRaceBetween scan.trace.events scan.from scan.to scan.passed until → NoRaceBetween trace.events 0 MAX_VARS scan.passed until
+none_of_all trace scan until all none = subst (λ (h : History). NoRaceBetween h.events 0 MAX_VARS scan.passed until) all.along
+    (subst (λ (n : ℕ). NoRaceBetween scan.trace.events 0 n scan.passed until) all.greatest
+    (subst (λ (n : ℕ). NoRaceBetween scan.trace.events n scan.to scan.passed until) all.least none))
 
 -- one prediction more
-pub predicted_one : (h : History) (later : ℕ) (found : List Prediction) (p : Prediction) → Scanned h.events h.threads later (map found_race found) → p.race.later ≡ later
-    → IsFoundRace h.events h.threads (by_reorderings h.events) (found_race p) → Scanned h.events h.threads (later + 1) (map found_race (found ++ p ∷ []))
-predicted_one h later found p s is race = subst (Scanned h.events h.threads (later + 1)) (sym (map-append found_race found (p ∷ []))) (scanned_one h.events h.threads later (map found_race found) (found_race p) s is race)
+pub predicted_one : (h : History) (scan : Scan) (found : List Prediction) (p : Prediction) → AreVariablesBelow h.events MAX_VARS → IsOfAll h scan → Scanned h.events h.threads scan.passed (map found_race found) → IsNextRace scan (found_race p)
+    → Scanned h.events h.threads (p.race.later + 1) (map found_race (found ++ p ∷ []))
+predicted_one h scan found p variables all s next = subst (Scanned h.events h.threads (p.race.later + 1)) (sym (map-append found_race found (p ∷ [])))
+    (scanned_one h.events h.threads p.race.later (map found_race found) (found_race p)
+    (scanned_past h.events h.threads scan.passed p.race.later (map found_race found) s next.from_passed (no_race_from h.events scan.passed p.race.later variables (none_of_all h scan p.race.later all next.first)))
+    refl (subst (λ (t : History). IsFoundRace t.events t.threads (by_reorderings t.events) (found_race p)) all.along next.is_found))
+
+-- where the scan gives no further race, all are predicted
+pub predicted_all : (h : History) (scan : Scan) (found : List Prediction) → AreVariablesBelow h.events MAX_VARS → IsOfAll h scan → Scanned h.events h.threads scan.passed (map found_race found) → scan.passed ≤ length h.events
+    → NoRaceBetween scan.trace.events scan.from scan.to scan.passed (length scan.trace.events) → ArePredictions h found
+predicted_all h scan found variables all s passed none = predicted h (length h.events) found (omega arith)
+    (scanned_past h.events h.threads scan.passed (length h.events) (map found_race found) s passed
+    (no_race_from h.events scan.passed (length h.events) variables (none_of_all h scan (length h.events) all (subst (λ (t : History). NoRaceBetween scan.trace.events scan.from scan.to scan.passed (length t.events)) all.along none))))
+
+-- the later place of a race that was found is one of the trace
+pub found_within : (h : History) (scan : Scan) (p : Prediction) → IsOfAll h scan → IsNextRace scan (found_race p) → p.race.later < length h.events
+found_within h scan p all next = subst (λ (t : History). p.race.later < length t.events) all.along (access_within scan.trace.events p.race.later next.range.var next.range.accesses)

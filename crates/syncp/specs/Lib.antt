@@ -2,7 +2,6 @@ pub mod Faults
 pub mod Output
 pub mod Outcome
 pub mod Run
-pub mod Accesses
 pub mod Predictions
 pub mod Recorded
 pub mod Modes

@@ -9,7 +9,7 @@ use Rattle.sp_closure.proofs.admitting.admit_before.Goals as goal
 
 pub returns : goal.returns
 returns c =
-    let events = c.args.index.now.events in
+    let events = c.args.paths.now.events in
     let place = c.args.place in
     let e = c.event-event.result in
     let at = c.event-event.ensures.event in

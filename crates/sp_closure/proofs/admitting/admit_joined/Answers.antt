@@ -5,4 +5,4 @@ use Rattle.trace_laws.specs.Traces.{NamesBelow}
 use Rattle.sp_closure.proofs.admitting.admit_joined.Goals as goal
 
 pub admit_thread-requires-clause-thread : goal.admit_thread-requires-clause-thread
-admit_thread-requires-clause-thread c = subst (λ (o : Op). NamesBelow o c.args.index.now.threads) (sym (ap (λ (e : Event). e.op) c.event.view_is) ∙ c.in-Join.is) c.requires.named
+admit_thread-requires-clause-thread c = subst (λ (o : Op). NamesBelow o c.args.paths.now.threads) (sym (ap (λ (e : Event). e.op) c.event.view_is) ∙ c.in-Join.is) c.requires.named

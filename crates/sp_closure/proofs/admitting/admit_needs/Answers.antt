@@ -1,6 +1,6 @@
 use Rattle.std.proofs.Common.{ℕ, ◌⊎◌}
 use Rattle.trace_laws.specs.Trace.{Before}
-use Rattle.sp_closure.specs.Tables.{IsWriterOfRead}
+use Rattle.sp_closure.specs.Needs.{IsWriterOfRead}
 use Rattle.sp_closure.specs.Needs.{IsReleaseOfEarlier, Needs}
 use Rattle.sp_closure.proofs.Admissions.{admits_both, admits_same}
 use Rattle.sp_closure.proofs.Sides.{needs_sides, sides_needs}
@@ -8,7 +8,7 @@ use Rattle.sp_closure.proofs.admitting.admit_needs.Goals as goal
 
 pub returns : goal.returns
 returns c =
-    let events = c.args.index.now.events in
+    let events = c.args.paths.now.events in
     let place = c.args.place in
     let latest = c.args.latest in
     let a = c.args.cuts.now in

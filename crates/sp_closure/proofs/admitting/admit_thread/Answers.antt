@@ -1,7 +1,7 @@
 use Rattle.std.proofs.Common.{◌≡◌, ◌<◌, ◌⊎◌, ℕ, List, Some, length, sym, subst, arith}
 use Rattle.trace_laws.specs.declared.event.Op.TheVariants.{Fork}
 use Rattle.trace_laws.specs.Trace.{op_at}
-use Rattle.sp_closure.specs.Indexes.{IsOf}
+use Rattle.sp_closure.specs.Paths.{IsOf}
 use Rattle.sp_closure.specs.Cuts.{Admits}
 use Rattle.sp_closure.specs.Needs.{IsThreadBefore}
 use Rattle.sp_closure.proofs.Admissions.{admits_below, admits_both, admits_same}
@@ -10,7 +10,7 @@ use Rattle.sp_closure.proofs.admitting.admit_thread.Goals as goal
 
 pub returns : goal.returns
 returns c =
-    let events = c.args.index.now.events in
+    let events = c.args.paths.now.events in
     let thread = c.args.thread in
     let place = c.args.place in
     let old = c.args.cuts.now in

@@ -1,22 +1,28 @@
-use Rattle.std.proofs.Common.{arith, map}
-use Rattle.syncp.specs.Predictions.{found_race}
-use Rattle.syncp.proofs.Scanning.{scanned_past, predicted, predicted_one}
+use Rattle.std.proofs.Common.{◌≡◌, ◌+◌, ap, subst, ◌∙◌, arith}
+use Rattle.race_scan.specs.Scans.{Scan, Gives}
+use Rattle.syncp.specs.declared.scan.Prediction.{Prediction}
+use Rattle.syncp.proofs.Scanning.{predicted_one, predicted_all, found_within}
 use Rattle.syncp.proofs.scan.collect.Goals as goal
-use Rattle.syncp.proofs.scan.collect.Goals.{in-Some+in_ok-prediction+in-Ok-push, in_default-earliest_partner}
 
-pub loop-later-preserved : goal.loop-later-preserved
-loop-later-preserved c =
-    let at = c.loop-later in
-    elim c.match-earliest_partner.branch [
-      | in-Some+in_ok-prediction+in-Ok-push w ↦ rw (w.cursor-is, w.found-is) (record {
-        trace = w.with_keep.ensures.trace;
-        scanned = rw w.in-Ok-push.ensures.items (predicted_one c.args.trace.now at.later at.found.items _ at.invariant.scanned w.in_ok-prediction.ensures.later w.in_ok-prediction.ensures.found);
-      })
-      | in_default-earliest_partner w ↦ rw (w.cursor-is, w.found-is) (record {
-        trace = c.earliest_partner.ensures.trace;
-        scanned = scanned_past c.args.trace.now.events c.args.trace.now.threads at.later (map found_race at.found.items) at.invariant.scanned w.in_default-earliest_partner.ensures.none;
-      })
-    ]
+pub loop-found-preserved : goal.loop-found-preserved
+loop-found-preserved c =
+    let trace = c.args.scan.now.trace in
+    let at = c.loop-found in
+    let one : Prediction = record { race = c.in-Some.race; keep = c.in-Some.keep } in
+    let given = subst (λ o. Gives at.scan o c.next.new.self) c.in-Some.is c.in_ok-race.ensures.ok in
+    let passed : c.next.new.self.passed ≡ one.race.later + 1 = ap (λ (s : Scan). s.passed) given.1 in
+    record {
+      all = record {
+        along = ap (λ (s : Scan). s.trace) given.1 ∙ at.invariant.all.along;
+        least = ap (λ (s : Scan). s.from) given.1 ∙ at.invariant.all.least;
+        greatest = ap (λ (s : Scan). s.to) given.1 ∙ at.invariant.all.greatest;
+      };
+      within = let less = found_within trace at.scan one at.invariant.all given.0 in omega arith;
+      scanned = rw (passed, c.in-Ok.ensures.items) (predicted_one trace at.scan at.found.items one c.requires.variables at.invariant.all at.invariant.scanned given.0);
+    }
 
 pub returns : goal.returns
-returns c = predicted c.args.trace.now c.loop-later.later c.loop-later.found.items (omega arith) c.loop-later.invariant.scanned
+returns c =
+    let at = c.loop-found in
+    let given = subst (λ o. Gives at.scan o c.next.new.self) c.in_default.is c.in_ok-race.ensures.ok in
+    predicted_all c.args.scan.now.trace at.scan at.found.items c.requires.variables at.invariant.all at.invariant.scanned at.invariant.within given.0

@@ -5,7 +5,7 @@ use Rattle.sp_closure.proofs.Resting.{fresh_at_rest}
 use Rattle.sp_closure.proofs.cursor.Cursor.with_room.Goals as goal
 
 pub invariant_of-result : goal.invariant_of-result
-invariant_of-result c = fresh_at_rest c.in_ok-index.index.events c.in_ok-index.index.threads c.in_ok-state.state (subst (λ (h : History). IsTrace h.events h.threads) c.index.view_is c.index.invariant.trace) c.in_ok-state.ensures
+invariant_of-result c = fresh_at_rest c.in_ok-paths.paths.events c.in_ok-paths.paths.threads c.in_ok-state.state c.in_ok-paths.ensures.trace c.in_ok-state.ensures
 
 pub returns-clause-empty : goal.returns-clause-empty
-returns-clause-empty c = empty_flags c.in_ok-index.index.events c.in_ok-state.state.cuts c.in_ok-state.ensures.cuts
+returns-clause-empty c = empty_flags c.in_ok-paths.paths.events c.in_ok-state.state.cuts c.in_ok-state.ensures.cuts

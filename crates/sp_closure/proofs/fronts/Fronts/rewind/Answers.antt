@@ -11,7 +11,7 @@ loop-thread-preserved c =
     let within : thread < length places = (let size = c.loop-thread.invariant.size in let less = c.loop-thread-test.true in let end = c.threads-thread-end.ensures in omega arith) in
     record {
       size = length-set places thread c.first.result ∙ c.loop-thread.invariant.size;
-      first = first_entered c.args.index.now.events places thread c.first.result within c.loop-thread.invariant.first c.first.ensures;
+      first = first_entered c.args.paths.now.events places thread c.first.result within c.loop-thread.invariant.first c.first.ensures;
     }
 
 pub returns-clause-first : goal.returns-clause-first

@@ -5,9 +5,9 @@ use Rattle.sp_closure.proofs.state.State.close.Given as goal
 
 abbrev pub invariant-loop-place : goal.invariant-loop-place
 invariant-loop-place l = record {
-  way : IsUnderWay l.index.events l.index.threads l.self;
-  grows : Admits l.index.events (λ _. ⊥) l.fn.self.cuts l.self.cuts;
+  way : IsUnderWay l.paths.events l.paths.threads l.self;
+  grows : Admits l.paths.events (λ _. ⊥) l.fn.self.cuts l.self.cuts;
 }
 
 abbrev pub decreases-loop-place : goal.decreases-loop-place
-decreases-loop-place l = left_in_all (length l.index.events) l.self.fronts
+decreases-loop-place l = left_in_all (length l.paths.events) l.self.fronts

@@ -7,4 +7,4 @@ use Rattle.sp_closure.proofs.state.State.has.Goals as goal
 pub returns : goal.returns
 returns c =
     ap (λ (n : ℕ). nat_lt c.args.place n) (c.cut.ensures ∙ ap (λ (t : ℕ). slice_index c.args.self.now.cuts t) (c.value.ensures.value ∙ ap (λ (e : Event). e.thread) c.event.view_is))
-    ∙ sym (has_event c.args.index.now.events c.args.self.now.cuts c.args.place c.event-event.result c.event-event.ensures.event)
+    ∙ sym (has_event c.args.paths.now.events c.args.self.now.cuts c.args.place c.event-event.result c.event-event.ensures.event)

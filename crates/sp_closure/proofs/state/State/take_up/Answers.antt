@@ -6,17 +6,17 @@ use Rattle.sp_closure.proofs.TakingUp.{pending_within}
 use Rattle.sp_closure.proofs.state.State.take_up.Goals as goal
 
 pub event-event-requires : goal.event-event-requires
-event-event-requires c = pending_within c.args.index.now.events c.args.index.now.threads c.args.self.now c.requires.pending.0 c.args.place c.requires.way c.requires.pending.1
+event-event-requires c = pending_within c.args.paths.now.events c.args.paths.now.threads c.args.self.now c.requires.pending.0 c.args.place c.requires.way c.requires.pending.1
 
 pub admit_needs-requires-clause-place : goal.admit_needs-requires-clause-place
-admit_needs-requires-clause-place c = pending_within c.args.index.now.events c.args.index.now.threads c.args.self.now c.requires.pending.0 c.args.place c.requires.way c.requires.pending.1
+admit_needs-requires-clause-place c = pending_within c.args.paths.now.events c.args.paths.now.threads c.args.self.now c.requires.pending.0 c.args.place c.requires.way c.requires.pending.1
 
 pub overflow_add-index_mut : goal.overflow_add-index_mut
 overflow_add-index_mut c =
     let t = c.requires.pending.0 in
-    let within = pending_within c.args.index.now.events c.args.index.now.threads c.args.self.now t c.args.place c.requires.way c.requires.pending.1 in
+    let within = pending_within c.args.paths.now.events c.args.paths.now.threads c.args.self.now t c.args.place c.requires.way c.requires.pending.1 in
     let own = c.requires.way.front t c.args.place c.requires.pending.1.front in
-    let event = thread_from_event c.args.index.now.events c.args.place c.event-event.result c.event-event.ensures.event in
+    let event = thread_from_event c.args.paths.now.events c.args.place c.event-event.result c.event-event.ensures.event in
     let thread : c.event-event.result.thread ≡ t = cc in
     let number : c.value.result ≡ t = c.value.ensures.value ∙ ap (λ (e : Event). e.thread) c.event.view_is ∙ thread in
     let few : slice_index c.args.self.now.counts.items t ≤ c.args.place = c.requires.way.few t c.args.place c.requires.pending.1.front in
@@ -28,4 +28,4 @@ overflow_add-index_mut c =
     omega arith
 
 pub next-requires : goal.next-requires
-next-requires c = pending_within c.args.index.now.events c.args.index.now.threads c.args.self.now c.requires.pending.0 c.args.place c.requires.way c.requires.pending.1
+next-requires c = pending_within c.args.paths.now.events c.args.paths.now.threads c.args.self.now c.requires.pending.0 c.args.place c.requires.way c.requires.pending.1

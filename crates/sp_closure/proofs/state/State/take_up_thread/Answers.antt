@@ -5,12 +5,12 @@ use Rattle.sp_closure.proofs.TakingUp.{pending_within, under_way_step, grows_ste
 use Rattle.sp_closure.proofs.state.State.take_up_thread.Goals as goal
 
 pub event-event-requires : goal.event-event-requires
-event-event-requires c = pending_within c.args.index.now.events c.args.index.now.threads c.args.self.now c.requires.pending.0 c.args.place c.requires.way c.requires.pending.1
+event-event-requires c = pending_within c.args.paths.now.events c.args.paths.now.threads c.args.self.now c.requires.pending.0 c.args.place c.requires.way c.requires.pending.1
 
 pub loop-next-init : goal.loop-next-init
 loop-next-init c =
-    let events = c.args.index.now.events in
-    let threads = c.args.index.now.threads in
+    let events = c.args.paths.now.events in
+    let threads = c.args.paths.now.threads in
     let t = c.requires.pending.0 in
     let old = c.args.self.now in
     let new = c.take_up.new.self in
@@ -21,12 +21,12 @@ loop-next-init c =
     }
 
 pub loop-next-smaller : goal.loop-next-smaller
-loop-next-smaller c = left_step c.args.index.now.events c.args.index.now.threads c.in-Some.next c.value-thread.result c.loop-next.self c.take_up-in-Some.new.self c.loop-next.invariant.way c.in-Some.ensures.some c.take_up-in-Some.ensures
+loop-next-smaller c = left_step c.args.paths.now.events c.args.paths.now.threads c.in-Some.next c.value-thread.result c.loop-next.self c.take_up-in-Some.new.self c.loop-next.invariant.way c.in-Some.ensures.some c.take_up-in-Some.ensures
 
 pub loop-next-preserved : goal.loop-next-preserved
 loop-next-preserved c =
-    let events = c.args.index.now.events in
-    let threads = c.args.index.now.threads in
+    let events = c.args.paths.now.events in
+    let threads = c.args.paths.now.threads in
     let t = c.value-thread.result in
     let old = c.loop-next.self in
     let new = c.take_up-in-Some.new.self in

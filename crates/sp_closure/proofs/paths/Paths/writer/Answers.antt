@@ -1,0 +1,23 @@
+use Rattle.std.proofs.Common.{◌≡◌, Some, slice_get, sym, ap, subst, ◌∙◌}
+use Rattle.trace_laws.specs.Event.{Event}
+use Rattle.trace_laws.specs.Traces.{History}
+use Rattle.trace_laws.specs.declared.event.Op.TheVariants.{Read}
+use Rattle.trace_laws.specs.Trace.{Reads}
+use Rattle.trace_laws.proofs.Places.{op_from_event}
+use Rattle.sp_closure.proofs.Ties.{writer_tells, no_writer}
+use Rattle.sp_closure.proofs.paths.Paths.writer.Goals as goal
+
+pub returns-in-Read : goal.returns-in-Read
+returns-in-Read c =
+    let events = c.self.inside.index.now.events in
+    let x = c.in-Read.field-0 in
+    let at = subst (λ (h : History). slice_get h.events c.args.place ≡ Some c.event.result) c.trace.ensures.value c.event.ensures in
+    let reads : Reads events c.args.place x = op_from_event events c.args.place c.event.result at ∙ ap Some (sym (ap (λ (e : Event). e.op) c.event-2.view_is) ∙ c.in-Read.is) in
+    rw (← c.self.view_is) (writer_tells events c.args.place x c.writer.result reads (c.writer.ensures x reads))
+
+pub returns-in_default : goal.returns-in_default
+returns-in_default c =
+    let events = c.self.inside.index.now.events in
+    let at = subst (λ (h : History). slice_get h.events c.args.place ≡ Some c.event.result) c.trace.ensures.value c.event.ensures in
+    let op = op_from_event events c.args.place c.event.result at in
+    rw (← c.self.view_is) (no_writer events c.args.place (λ x reads. c.in_default.not-Read x (ap (λ (e : Event). e.op) c.event-2.view_is ∙ (let same : c.event.result.op ≡ Read x = cc in same))))

@@ -1,0 +1,5 @@
+pub mod Numbers
+pub mod Writers
+pub mod Sections
+pub mod Accessed
+pub mod Indexes

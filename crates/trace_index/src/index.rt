@@ -1,0 +1,103 @@
+//! The index of a trace.
+
+ghost use Rattle.std.specs.Prelude.{ℕ, ◌≡◌, ◌<◌, ◌↔◌, length, IfOk, Some};
+ghost use Rattle.trace_laws.specs.Trace.{Reads, op_at, IsWriter, IsReleaseOf};
+ghost use Rattle.trace_laws.specs.Kept.{local_of};
+ghost use Rattle.trace_index.specs.Accessed.{AreAccesses, AreVariablesBelow};
+
+use crate::access_lists::AccessLists;
+use crate::locals::Locals;
+use crate::sections::Sections;
+use crate::writers::Writers;
+use sp_base::{MAX_VARS, OutOfMemory, VarId};
+use std::alloc::Global;
+use std::marker::Model;
+use trace_laws::{Op, Trace};
+
+/// A trace with tables on its places.
+///
+/// Contracts see the trace.
+#[derive(Drop)]
+pub struct Index<'a> {
+    trace: &'a Trace,
+    locals: Vec<u32>,
+    writers: Vec<Option<u32>>,
+    releases: Vec<Option<u32>>,
+    accesses: Vec<Vec<u32>>,
+}
+
+impl<'a> Model for Index<'a> {
+    ghost use Rattle.trace_laws.specs.Traces.{History};
+
+    ghost Value = { History };
+
+    ghost use Rattle.trace_index.specs.Indexes.{history_in, IsIndexed};
+
+    ghost view = { history_in };
+
+    ghost invariant = { IsIndexed };
+}
+
+impl<'a> Index<'a> {
+    /// The index of a trace, made in one pass over it. The only error is want of memory.
+    pub fn build(alloc: Global, trace: &'a Trace) -> Result<Index<'a>, OutOfMemory>
+        ensures { IfOk result (λ index. index ≡ trace.now) }
+    {
+        let mut locals = Locals::new(alloc, trace)?;
+        let mut writers = Writers::new(alloc, trace)?;
+        let mut sections = Sections::new(alloc, trace)?;
+        let mut accesses = AccessLists::new(alloc, trace)?;
+        for place in 0..trace.len() {
+            locals.note(trace, place);
+            writers.note(trace, place);
+            sections.note(trace, place);
+            accesses.note(trace, place)?;
+        }
+        Ok(Index {
+            trace,
+            locals: locals.numbers,
+            writers: writers.writers,
+            releases: sections.releases,
+            accesses: accesses.lists,
+        })
+    }
+
+    /// The trace.
+    pub fn trace(&self) -> &'a Trace
+        ensures value { result.now ≡ self.now }
+        ensures variables { AreVariablesBelow self.now.events MAX_VARS }
+    {
+        self.trace
+    }
+
+    /// The number of a place within its thread: how many events of its thread stand before it.
+    pub fn local(&self, place: u32) -> u32
+        requires { place < length self.now.events }
+        ensures { result ≡ local_of self.now.events place }
+    {
+        self.locals[place as usize]
+    }
+
+    /// The writer of a read: the last write of its variable before it, or none.
+    pub fn writer(&self, place: u32) -> Option<u32>
+        requires { (x : ℕ) × Reads self.now.events place x }
+        ensures { (x : ℕ) → Reads self.now.events place x → IsWriter self.now.events ◌<◌ place x result }
+    {
+        self.writers[place as usize]
+    }
+
+    /// The release of an acquire. There is none exactly where its section does not end.
+    pub fn release(&self, place: u32) -> Option<u32>
+        requires { (l : ℕ) × (op_at self.now.events place ≡ Some (Op.Acquire l)) }
+        ensures { (r : ℕ) → (result ≡ Some r) ↔ IsReleaseOf self.now.events place r }
+    {
+        self.releases[place as usize]
+    }
+
+    /// The places that read or write a variable, in the order of the trace.
+    pub fn accesses(&self, var: VarId) -> &[u32]
+        ensures { AreAccesses self.now.events var result.now }
+    {
+        &self.accesses[var.value() as usize]
+    }
+}
