@@ -4,3 +4,5 @@ pub mod Scanning
 pub mod GivenNames
 pub mod Recordings
 pub mod Gathering
+pub mod Options
+pub mod Readings

@@ -10,6 +10,7 @@ use Rattle.std_text.proofs.TextPieces.{after_fault}
 use Rattle.script_machine.specs.Laws.{ExclusiveLaw}
 use Rattle.script_machine.specs.ScriptText.{Scripts, FirstFault}
 use Rattle.syncp.specs.declared.mode.Mode.{Mode}
+use Rattle.syncp.specs.declared.words.Words.{Words}
 use Rattle.syncp.specs.declared.mode.Mode.TheVariants.{Predict, Record}
 use Rattle.syncp.specs.declared.outcome.Fault.{Fault}
 use Rattle.syncp.specs.declared.outcome.Fault.TheVariants as fault
@@ -41,10 +42,6 @@ nothing_written mode Ended fault.Read input fails = (fails, refl)
 nothing_written mode Ended fault.Write input fails = absurd fails
 nothing_written mode Ended fault.OutOfMemory input fails = inl refl
 
--- words that name no mode
-pub no_mode : (m : Option Mode) (Ended ErrFailed : Type 0) → m ≡ None → Leaves m Ended ErrFailed Usage [] [] []
-no_mode m Ended ErrFailed none = subst (λ n. Leaves n Ended ErrFailed Usage [] [] []) (sym none) (refl, refl, refl, refl)
-
 -- a line that is told begins that of the fault
 front_of_line : (R : Type 0) (f : Fault) (line : List ℕ) → TellsLine R f line → IsFront line (fault_line f)
 front_of_line R f line (inl whole) = ([], sym whole ∙ sym (append-nil line))
@@ -70,6 +67,16 @@ module _ (mode : Mode) (E R : Type 0) (input text line : List ℕ) where
   pub refused_means : (f : Fault) (status : Status) → Explains mode E (outcome.Refused f) input text → TellsOf R f status line → Means mode E R status input text line
   refused_means f status e (inl t) = told_means f status e t.0 t.1
   refused_means f status e (inr t) = subst (λ s. Means mode E R s input text line) (sym t.0) (before_refusal mode E f input text e, (f, t.1))
+
+-- the status of want of memory
+pub memory_status : (ErrFailed : Type 0) (status : Status) (line : List ℕ) → TellsOf ErrFailed fault.OutOfMemory status line → status ≡ NoMemory
+memory_status ErrFailed status line (inl t) = t.0
+memory_status ErrFailed status line (inr t) = t.0
+
+-- want of memory before the words were read
+pub words_not_read : (words : Option Words) (Ended ErrFailed : Type 0) (status : Status) (line : List ℕ) → TellsOf ErrFailed fault.OutOfMemory status line → Leaves words Ended ErrFailed status [] [] line
+words_not_read None Ended ErrFailed status line told = (inr (memory_status ErrFailed status line told), refl, refl)
+words_not_read (Some words) Ended ErrFailed status line told = refused_means words.mode Ended ErrFailed [] [] line fault.OutOfMemory status (inl refl) told
 
 -- an input in the grammar of traces has no fault
 no_fault : (new : Option (List ℕ)) (all input : List ℕ) (p : Progress) (r : Refusal) → Consumes (Some all) new input → IsStd all p → IsKnownFault (IsAtEnd new) input r → ⊥

@@ -6,3 +6,5 @@ pub mod Predictions
 pub mod Recorded
 pub mod Modes
 pub mod Statuses
+pub mod Words
+pub mod Parsed

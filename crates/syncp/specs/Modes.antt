@@ -1,5 +1,5 @@
--- The modes: their words, and what each makes of an input. Ended says that the source is at its end.
-use Rattle.std.specs.Prelude.{◌≡◌, ◌≤◌, ℕ, Bool, false, List, [], ◌∷◌, length, nat_eq, codes, if◌then◌else◌}
+-- The modes: their names, and what each makes of an input. Ended says that the source is at its end.
+use Rattle.std.specs.Prelude.{◌≡◌, ◌≤◌, ℕ, Bool, false, List, [], length, nat_eq, codes, if◌then◌else◌}
 use Rattle.std.specs.declared.option.Option.{Option}
 use Rattle.std.specs.declared.option.Option.TheVariants.{None, Some}
 use Rattle.std.specs.Cmp.Lexicographic.{pointwise}
@@ -22,13 +22,6 @@ mode_named word =
     if pointwise nat_eq word (codes "predict") then Some Predict
     else if pointwise nat_eq word (codes "record") then Some Record
     else None
-
--- the mode that the words name: they are two, the program's name and the word of the mode
-abbrev pub mode_in : List (List ℕ) → Option Mode
-mode_in [] = None
-mode_in (program ∷ []) = None
-mode_in (program ∷ word ∷ []) = mode_named word
-mode_in (program ∷ word ∷ other ∷ more) = None
 
 -- the input is in the grammar of the mode: it is a trace text, or a script of no more bytes than an input may have
 abbrev pub IsAccepted : Mode → List ℕ → Type 0

@@ -4,6 +4,7 @@ use Rattle.std.specs.declared.option.Option.{Option}
 use Rattle.std.specs.declared.option.Option.TheVariants.{None, Some}
 use Rattle.sp_base.specs.Moves.{IsFront}
 use Rattle.syncp.specs.declared.mode.Mode.{Mode}
+use Rattle.syncp.specs.declared.words.Words.{Words}
 use Rattle.syncp.specs.declared.outcome.Fault.{Fault}
 use Rattle.syncp.specs.declared.outcome.Fault.TheVariants as fault
 use Rattle.syncp.specs.declared.outcome.Status.{Status}
@@ -35,10 +36,10 @@ Means mode Ended ErrFailed ReadFault input text line = HasNoFaultIn mode input �
 Means mode Ended ErrFailed WriteFault input text line = IsFrontOf mode input text × Ended × TellsLine ErrFailed fault.Write line
 Means mode Ended ErrFailed NoMemory input text line = ((text ≡ []) ⊎ (IsFrontOf mode input text × Ended)) × ((f : Fault) × IsFront line (fault_line f))
 
--- the same by the mode that the words name, where they name one; nothing is read or written where they name none
-abbrev pub Leaves : Option Mode → Type 0 → Type 0 → Status → List ℕ → List ℕ → List ℕ → Type 0
-Leaves None Ended ErrFailed status input text line = (status ≡ Usage) × (input ≡ []) × (text ≡ []) × (line ≡ [])
-Leaves (Some mode) Ended ErrFailed status input text line = Means mode Ended ErrFailed status input text line
+-- the same by the reading of the words; where they have none nothing is read or written to `out`, and `err` may have gained a text for the user
+abbrev pub Leaves : Option Words → Type 0 → Type 0 → Status → List ℕ → List ℕ → List ℕ → Type 0
+Leaves None Ended ErrFailed status input text line = ((status ≡ Usage) ⊎ (status ≡ NoMemory)) × (input ≡ []) × (text ≡ [])
+Leaves (Some words) Ended ErrFailed status input text line = Means words.mode Ended ErrFailed status input text line
 
 -- the whole output was written
 abbrev pub IsDone : Status → Type 0

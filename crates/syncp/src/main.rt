@@ -2,6 +2,7 @@
 #![tactic(auto)]
 
 mod analyse;
+mod command;
 mod fault_line;
 mod mode;
 mod outcome;
@@ -17,6 +18,9 @@ mod status;
 #[cfg(test)]
 mod tests;
 mod whole_text;
+mod words;
+#[cfg(test)]
+mod words_tests;
 
 use outcome::Status;
 use run::run;
@@ -25,7 +29,7 @@ use std::process::ExitCode;
 use std::{env, io};
 
 // The words of the command line, or the status where they can't be had.
-fn words(rt: &HostRuntime) -> Result<Vec<String>, Status> {
+fn given_words(rt: &HostRuntime) -> Result<Vec<String>, Status> {
     let args = match env::args(rt) {
         Ok(args) => args,
         Err(fault) if fault.kind() == io::ErrorKind::OutOfMemory => return Err(Status::NoMemory),
@@ -41,7 +45,7 @@ fn words(rt: &HostRuntime) -> Result<Vec<String>, Status> {
 }
 
 fn main(rt: HostRuntime) -> ExitCode {
-    let words = match words(&rt) {
+    let words = match given_words(&rt) {
         Ok(words) => words,
         Err(status) => return ExitCode::from(status.code()),
     };

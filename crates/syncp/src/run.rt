@@ -1,38 +1,35 @@
 // The top call.
-ghost use Rattle.std.specs.Prelude.{◌≡◌, ◌≢◌, ◌⊎◌, ◌↔◌, List, ℕ, Some, None, map, IfOk, string_bytes};
+ghost use Rattle.std.specs.Prelude.{◌≡◌, ◌≢◌, ◌⊎◌, List, ℕ, Some, None, map, IfOk, string_bytes};
 ghost use Rattle.std.specs.Io.KnownBytes.{IsAtEnd};
 ghost use Rattle.sp_base.specs.Causes.{Rose};
 ghost use Rattle.sp_base.specs.Moves.{Took, Gained};
-ghost use Rattle.syncp.specs.Modes.{mode_in, IsAccepted};
+ghost use Rattle.syncp.specs.Modes.{IsAccepted};
 ghost use Rattle.syncp.specs.Outcome.{Explains};
 ghost use Rattle.syncp.specs.Outcome as outcome;
 ghost use Rattle.syncp.specs.Output.{IsWithinLimit};
 ghost use Rattle.syncp.specs.Run.{Means, Leaves, TellsOf, IsDone};
-ghost use Rattle.syncp.specs.declared.mode.Mode.{Mode as ModeOf};
+ghost use Rattle.syncp.specs.Words.{IsInRange, reading_of};
+ghost use Rattle.syncp.specs.declared.words.Words.{Words as Reading};
 
 use crate::analyse::analyse;
 use crate::fault_line::line_of;
-use crate::mode::{Mode, mode_of};
+use crate::mode::Mode;
 use crate::outcome::{Fault, Outcome, Status};
 use crate::record_mode::record_alone;
 use crate::status::status_of;
+use crate::words::{Words, WordsFault, read_words};
 use sp_base::{Gate, Sink, Source, WriteFault, write_all};
 use std::alloc::Global;
 use std::sync::Wait;
 use std::thread::Threads;
 
-/// The size of deadlock patterns where the words name none.
-const DEFAULT_SIZE: u8 = 3;
-
-/// The number of workers where the words name none.
-const DEFAULT_WORKERS: u8 = 4;
-
 /// Reads the source to its end and writes to `out` what the mode makes of it: `predict` reads a trace and writes the
 /// report, `record` reads a script and writes the trace that is recorded. The line of a fault goes to `err`.
 ///
-/// The words are the program's name and the mode; with any other words nothing is read or written. A refusal of the
-/// input comes at its first fault and before anything is written to `out`; in `record` the source is read to its end
-/// first. The line on `err` is tried once, and a fault there changes no status.
+/// The words are the program's name, the mode and options. Where they have no reading nothing is read or written to
+/// `out`, and `err` gains a text for the user, which is that of help where help was asked for. A refusal of the input
+/// comes at its first fault and before anything is written to `out`; in `record` the source is read to its end first.
+/// The line on `err` is tried once, and a fault there changes no status.
 pub fn run<R: Threads + Wait + Sync, S: Source, K: Sink, E: Sink, G: Gate>(
     rt: &R,
     alloc: Global,
@@ -46,22 +43,35 @@ pub fn run<R: Threads + Wait + Sync, S: Source, K: Sink, E: Sink, G: Gate>(
     ensures outcome { Took (S.left source.old) (S.left source.new) (λ input. IsWithinLimit input ×
         Gained (K.text out.old) (K.text out.new) (λ text.
         Gained (E.text err.old) (E.text err.new) (λ line.
-        Leaves (mode_in (map string_bytes words.now)) (IsAtEnd (S.left source.new)) (Rose (E.faults err.old) (E.faults err.new)) result input text line))) }
+        Leaves (reading_of (map string_bytes words.now)) (IsAtEnd (S.left source.new)) (Rose (E.faults err.old) (E.faults err.new)) result input text line))) }
 
     // When a refusal comes.
-    ensures usage { (result ≡ Status.Usage) ↔ (mode_in (map string_bytes words.now) ≡ None) }
+    ensures usage { result ≡ Status.Usage → reading_of (map string_bytes words.now) ≡ None }
+    ensures unread { reading_of (map string_bytes words.now) ≡ None → (result ≡ Status.Usage) ⊎ (result ≡ Status.NoMemory) }
     ensures read { result ≡ Status.ReadFault → Rose (S.faults source.old) (S.faults source.new) }
     ensures write { result ≡ Status.WriteFault → Rose (K.faults out.old) (K.faults out.new) }
 
     // An input in the grammar of the mode is answered, unless the outside fails or memory runs out.
-    ensures complete { (mode : ModeOf) → mode_in (map string_bytes words.now) ≡ Some mode →
-        (all : List ℕ) → S.left source.old ≡ Some all → IsAccepted mode all →
+    ensures complete { (reading : Reading) → reading_of (map string_bytes words.now) ≡ Some reading →
+        (all : List ℕ) → S.left source.old ≡ Some all → IsAccepted reading.mode all →
         ¬ Rose (S.faults source.old) (S.faults source.new) → ¬ Rose (K.faults out.old) (K.faults out.new) →
         IsDone result ⊎ (result ≡ Status.NoMemory) }
 {
-    match mode_of(words) {
-        Some(mode) => run_in(rt, alloc, mode, source, out, err, gate),
-        None => Status::Usage,
+    match read_words(alloc, words) {
+        Ok(reading) => run_in(rt, alloc, reading, source, out, err, gate),
+        Err(WordsFault::Usage(text)) => refuse_words(err, text.as_str()),
+        Err(WordsFault::OutOfMemory) => refuse(alloc, err, &Fault::OutOfMemory),
+    }
+}
+
+// Writes the text that refuses the words, and answers the status.
+fn refuse_words<E: Sink>(err: &mut E, text: &str) -> Status
+    ensures told { Gained (E.text err.old) (E.text err.new) (λ _. Unit {0}) }
+    ensures status { (result ≡ Status.Usage) ⊎ (result ≡ Status.NoMemory) }
+{
+    match write_all(err, text.as_bytes()) {
+        Err(WriteFault::OutOfMemory) => Status::NoMemory,
+        _ => Status::Usage,
     }
 }
 
@@ -69,24 +79,25 @@ pub fn run<R: Threads + Wait + Sync, S: Source, K: Sink, E: Sink, G: Gate>(
 fn run_in<R: Threads + Sync, S: Source, K: Sink, E: Sink, G: Gate>(
     rt: &R,
     alloc: Global,
-    mode: Mode,
+    reading: Words,
     source: &mut S,
     out: &mut K,
     err: &mut E,
     gate: &G,
 ) -> Status
+    requires { IsInRange reading }
     ensures outcome { Took (S.left source.old) (S.left source.new) (λ input. IsWithinLimit input ×
         Gained (K.text out.old) (K.text out.new) (λ text.
         Gained (E.text err.old) (E.text err.new) (λ line.
-        Means mode (IsAtEnd (S.left source.new)) (Rose (E.faults err.old) (E.faults err.new)) result input text line))) }
+        Means reading.mode (IsAtEnd (S.left source.new)) (Rose (E.faults err.old) (E.faults err.new)) result input text line))) }
     ensures usage { result ≢ Status.Usage }
     ensures read { result ≡ Status.ReadFault → Rose (S.faults source.old) (S.faults source.new) }
     ensures write { result ≡ Status.WriteFault → Rose (K.faults out.old) (K.faults out.new) }
-    ensures complete { (all : List ℕ) → S.left source.old ≡ Some all → IsAccepted mode all →
+    ensures complete { (all : List ℕ) → S.left source.old ≡ Some all → IsAccepted reading.mode all →
         ¬ Rose (S.faults source.old) (S.faults source.new) → ¬ Rose (K.faults out.old) (K.faults out.new) →
         IsDone result ⊎ (result ≡ Status.NoMemory) }
 {
-    match outcome_of(rt, alloc, mode, source, out, gate) {
+    match outcome_of(rt, alloc, reading, source, out, gate) {
         Outcome::Done { found } => { if found { Status::Found } else { Status::Clean } }
         Outcome::Refused(fault) => refuse(alloc, err, &fault),
     }
@@ -96,22 +107,23 @@ fn run_in<R: Threads + Sync, S: Source, K: Sink, E: Sink, G: Gate>(
 fn outcome_of<R: Threads + Sync, S: Source, K: Sink, G: Gate>(
     rt: &R,
     alloc: Global,
-    mode: Mode,
+    reading: Words,
     source: &mut S,
     out: &mut K,
     gate: &G,
 ) -> Outcome
+    requires { IsInRange reading }
     ensures outcome { Took (S.left source.old) (S.left source.new) (λ input. IsWithinLimit input ×
-        Gained (K.text out.old) (K.text out.new) (Explains mode (IsAtEnd (S.left source.new)) result input)) }
+        Gained (K.text out.old) (K.text out.new) (Explains reading.mode (IsAtEnd (S.left source.new)) result input)) }
     ensures ended { outcome.IsDone result → IsAtEnd (S.left source.new) }
     ensures read { result ≡ Outcome.Refused Fault.Read → Rose (S.faults source.old) (S.faults source.new) }
     ensures write { result ≡ Outcome.Refused Fault.Write → Rose (K.faults out.old) (K.faults out.new) }
-    ensures complete { (all : List ℕ) → S.left source.old ≡ Some all → IsAccepted mode all →
+    ensures complete { (all : List ℕ) → S.left source.old ≡ Some all → IsAccepted reading.mode all →
         ¬ Rose (S.faults source.old) (S.faults source.new) → ¬ Rose (K.faults out.old) (K.faults out.new) →
         outcome.IsDone result ⊎ (result ≡ Outcome.Refused Fault.OutOfMemory) }
 {
-    match mode {
-        Mode::Predict => analyse(rt, alloc, DEFAULT_SIZE, DEFAULT_WORKERS, source, out, gate),
+    match reading.mode {
+        Mode::Predict => analyse(rt, alloc, reading.size, reading.workers, source, out, gate),
         Mode::Record => record_alone(alloc, source, out),
     }
 }

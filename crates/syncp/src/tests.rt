@@ -523,7 +523,7 @@ fn a_fault_of_the_text_before_one_of_the_source(rt: HostRuntime) -> Result<(), F
     Ok(())
 }
 
-// Whether other words leave nothing and status 2.
+// Whether words that have no reading leave status 2, a text on `err` and nothing on `out`.
 fn is_usage<R: Threads + Wait + Sync>(
     rt: &R,
     alloc: Global,
@@ -532,7 +532,7 @@ fn is_usage<R: Threads + Wait + Sync>(
     let words = words(alloc, texts)?;
     let mut source = source(alloc, TWO_WRITES, 4, &[])?;
     let mut out = sink(alloc, 1, &[])?;
-    let mut err = sink(alloc, 1, &[])?;
+    let mut err = sink(alloc, 1_000, &[])?;
     let status = run(
         rt,
         alloc,
@@ -542,27 +542,20 @@ fn is_usage<R: Threads + Wait + Sync>(
         &mut err,
         &OpenGate,
     );
-    let left = Left {
-        out: b"",
-        err: b"",
-        code: 2,
-    };
-    Ok(is_left(status, &out, &err, &left))
+    Ok(status.code() == 2 && out.text().is_empty() && !err.text().is_empty())
 }
 
 #[test]
 fn words_without_a_reading(rt: HostRuntime) -> Result<(), Fail> {
     let alloc = rt.alloc();
-    assert!(rt; is_usage(&rt, alloc, &[])?, "no words");
-    assert!(rt; is_usage(&rt, alloc, &["syncp"])?, "no mode");
-    assert!(rt; is_usage(&rt, alloc, &["syncp", "replay"])?, "another mode");
     assert!(rt;
-        is_usage(&rt, alloc, &["syncp", "predicts"])?,
-        "a longer mode"
+        is_usage(&rt, alloc, &["syncp", "replays"])?,
+        "another mode"
     );
     assert!(rt;
-        is_usage(&rt, alloc, &["syncp", "predict", "predict"])?,
-        "a word too many"
+        is_usage(&rt, alloc, &["syncp", "predict", "--size", "5"])?,
+        "a size past its range"
     );
+    assert!(rt; is_usage(&rt, alloc, &["syncp", "--help"])?, "help");
     Ok(())
 }

@@ -1,11 +1,9 @@
-use Rattle.std.proofs.Common.{◌≡◌, None, [], map, string_bytes, arith}
+use Rattle.std.proofs.Common.{[], arith}
 use Rattle.std.proofs.KnownBytes.{Appends-nil, Consumes-nil}
-use Rattle.syncp.specs.Modes.{mode_in}
-use Rattle.syncp.proofs.Ran.{no_mode}
+use Rattle.syncp.proofs.Ran.{words_not_read}
 use Rattle.syncp.proofs.run.run.Goals as goal
 
-pub returns-in-None-clause-outcome : goal.returns-in-None-clause-outcome
-returns-in-None-clause-outcome g c =
-    let named = c.mode_of.ensures in
-    let none : mode_in (map string_bytes c.args.words.now) ≡ None = cc in
-    ([], Consumes-nil _, (omega arith, ([], Appends-nil _, ([], Appends-nil _, no_mode _ _ _ none))))
+pub returns-in-Err-OutOfMemory-clause-outcome : goal.returns-in-Err-OutOfMemory-clause-outcome
+returns-in-Err-OutOfMemory-clause-outcome g c =
+    let told = c.refuse.ensures.told in
+    ([], Consumes-nil _, (omega arith, ([], Appends-nil _, (told.0, told.1, words_not_read _ _ _ c.refuse.result told.0 told.2))))

@@ -1,0 +1,9 @@
+use Rattle.std.proofs.Common.{◌∙◌, sym}
+use Rattle.syncp.proofs.Readings.{number_is}
+use Rattle.syncp.proofs.words.number.Goals as goal
+
+pub returns : goal.returns
+returns c =
+    let n = c.requires.2 in
+    let gives = c.in-Some.ensures.value n.text n.one in
+    gives.0.1 ∙ sym (number_is _ _ _ _ n)
