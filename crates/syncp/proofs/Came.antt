@@ -1,5 +1,5 @@
 -- How far a source was read.
-use Rattle.std.proofs.Common.{◌≡◌, ℕ, ◌+◌, ◌<◌, ◌≤◌, List, [], ◌++◌, length, false, Ok, Err, refl, sym, ap, ◌∙◌, arith, length-append, append-nil, zero-le, inl, inr, subst, Result}
+use Rattle.std.proofs.Common.{◌≡◌, ℕ, ◌+◌, ◌≤◌, List, [], ◌++◌, length, false, Ok, Err, refl, sym, ap, ◌∙◌, arith, length-append, append-nil, zero-le, inl, inr, subst, Result}
 use Rattle.std.specs.declared.option.Option.{Option}
 use Rattle.std.specs.Io.KnownBytes.{Consumes}
 use Rattle.std.proofs.KnownBytes.{Consumes-trans, Consumes-nil}
@@ -9,7 +9,7 @@ use Rattle.trace_laws.specs.Names.{NameLists}
 use Rattle.trace_laws.specs.Traces.{History}
 use Rattle.std_text.specs.Framing.{Progress, start, after, closed}
 use Rattle.std_text.specs.Told.{Told, Failed, Gives, Reads, ReadsFrom, answer_of}
-use Rattle.std_text.specs.Refusal.{Refusal, ◌>>=◌}
+use Rattle.std_text.specs.Refusal.{Refusal}
 use Rattle.std_text.specs.declared.fault.ReadFault.{ReadFault}
 use Rattle.std_text.specs.declared.fault.ReadFault.TheVariants as read
 use Rattle.syncp.specs.declared.outcome.Fault.{Fault}

@@ -8,22 +8,21 @@ use Rattle.std_text.specs.Refusal.{Refusal, ◌>>=◌}
 use Rattle.std_text.specs.Framing.{Progress, start, after, closed}
 use Rattle.std_text.proofs.TextPieces.{after_fault}
 use Rattle.script_machine.specs.Laws.{ExclusiveLaw}
-use Rattle.script_machine.specs.ScriptText.{Scripts, FirstFault}
+use Rattle.script_machine.specs.ScriptText.{FirstFault}
 use Rattle.syncp.specs.declared.mode.Mode.{Mode}
 use Rattle.syncp.specs.declared.words.Words.{Words}
 use Rattle.syncp.specs.declared.mode.Mode.TheVariants.{Predict, Record}
 use Rattle.syncp.specs.declared.outcome.Fault.{Fault}
 use Rattle.syncp.specs.declared.outcome.Fault.TheVariants as fault
-use Rattle.syncp.specs.declared.outcome.Outcome.{Outcome}
 use Rattle.syncp.specs.declared.outcome.Outcome.TheVariants as outcome
 use Rattle.syncp.specs.declared.outcome.Status.{Status}
-use Rattle.syncp.specs.declared.outcome.Status.TheVariants.{Clean, Found, Usage, Refused, Limit, ReadFault, WriteFault, NoMemory}
+use Rattle.syncp.specs.declared.outcome.Status.TheVariants.{Usage, NoMemory}
 use Rattle.syncp.specs.Output.{IsStd, IsKnownFault}
 use Rattle.syncp.specs.Modes.{IsAccepted, IsFrontOf, IsRefusedIn}
 use Rattle.syncp.specs.Faults.{refusal_with, fault_line}
 use Rattle.syncp.specs.Outcome.{Explains, FailsToRead}
 use Rattle.syncp.specs.Outcome as done
-use Rattle.syncp.specs.Run.{Means, Leaves, Refuses, TellsOf, TellsLine, IsDone}
+use Rattle.syncp.specs.Run.{Means, Leaves, TellsOf, TellsLine, IsDone}
 use Rattle.syncp.specs.Statuses.{passes_limit, script_passes_limit, refusal_status, status_of}
 
 -- what was written before a refusal

@@ -1,9 +1,9 @@
-use Rattle.std.proofs.Common.{arith, rules, ◌≡◌, ◌≤◌, ◌+◌, ◌++◌, length, take, [], ap, Ok, false}
+use Rattle.std.proofs.Common.{arith, ◌≡◌, ◌≤◌, ◌+◌, ◌++◌, length, take, ap}
 use Rattle.std.proofs.lemmas.Result.{err_from_is_err_and}
 use Rattle.std.proofs.lemmas.List.{length-take}
 use Rattle.sp_base.specs.declared.limits.TheConstants.{MAX_INPUT}
 use Rattle.std_text.specs.Told.{Told}
-use Rattle.syncp.proofs.Came.{began, few_bytes, within_limit, grown, grown_within, went_on, refused_by, ended_at, gave_none}
+use Rattle.syncp.proofs.Came.{began, few_bytes, grown, grown_within, went_on, refused_by}
 use Rattle.syncp.proofs.reading.read_trace.Goals as goal
 
 pub loop-taken-init : goal.loop-taken-init

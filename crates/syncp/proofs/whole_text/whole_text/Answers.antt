@@ -1,4 +1,4 @@
-use Rattle.std.proofs.Common.{◌≡◌, ◌≤◌, ◌+◌, length, take, arith}
+use Rattle.std.proofs.Common.{◌≤◌, ◌+◌, length, take, arith}
 use Rattle.std.proofs.lemmas.List.{length-take}
 use Rattle.sp_base.specs.declared.limits.TheConstants.{MAX_INPUT}
 use Rattle.syncp.proofs.Gathering.{gathered_more}
