@@ -1,7 +1,7 @@
 // The lines of events.
 ghost use Rattle.std.specs.Prelude.{◌≡◌, ◌++◌, IfOk, OnOk, OnErr, codes, string_bytes};
 ghost use Rattle.std.specs.Fmt.{decimal};
-ghost use Rattle.std_text.specs.Writing.{word_of, operand_name, name_at, event_line, IsOperandNamed, IsNamed};
+ghost use Rattle.std_text.specs.Writing.{word_of, operand_name, event_line, IsOperandNamed, IsNamed};
 
 use sp_base::OutOfMemory;
 use std::alloc::Global;
