@@ -1,0 +1,147 @@
+-- Keeping the first events of each thread, place by place.
+use Rattle.std.proofs.Common.{◌≡◌, ◌≢◌, ℕ, suc, ◌+◌, ◌-◌, ◌<◌, ◌≤◌, List, [], ◌∷◌, ◌++◌, length, Option, Some, ◌⊎◌, inl, inr, refl, sym, ap, subst, ◌∙◌, arith}
+use Rattle.std.specs.Prelude.{Contains, ◌↔◌, ◌==◌, slice_get, slice_set, slice_index, unwrap_or}
+use Rattle.std.proofs.Math.ListN.{length-set}
+use Rattle.std.proofs.lemmas.Bool.{cases_eq}
+use Rattle.std.proofs.lemmas.Option.{slice_get_within, unwrap_or-slice_get}
+use Rattle.std.proofs.lemmas.List.Elements.{Contains-push, Contains-push_cases, Contains-append_left}
+use Rattle.trace_laws.specs.Event.{Event}
+use Rattle.trace_laws.specs.Trace.{thread_at}
+use Rattle.trace_laws.specs.Reordering.{Rises}
+use Rattle.trace_laws.specs.Kept.{count_of, local_of, IsKept, AreKept}
+use Rattle.trace_laws.proofs.Places.{contains_none, within_from_thread, false_unless}
+use Rattle.trace_laws.proofs.Enabling.{Rises-push}
+use Rattle.trace_laws.proofs.Counting.{one_if, tally}
+use Rattle.trace_laws.proofs.Growing.{slice_get-set_same, slice_get-set_other}
+use Rattle.replayer.proofs.Tallied.{is_own, own_from_thread, thread_from_own, count_is_tally, local_is_tally}
+
+-- what is still to be kept of each thread from place n on, and the kept places before it
+pub record AreKeptBefore (trace : List Event) (keep : List ℕ) (n : ℕ) (left places : List ℕ) : Type 0 where
+  pub size : length left ≡ length keep
+  pub rest : (t k : ℕ) → slice_get left t ≡ Some k → k ≡ slice_index keep t - count_of trace t n
+  pub order : Rises places
+  pub members : (p : ℕ) → Contains places p ↔ ((p < n) × IsKept trace keep p)
+
+-- nothing is kept at first
+pub kept_none : (trace : List Event) (keep left : List ℕ) → left ≡ keep → AreKeptBefore trace keep 0 left []
+kept_none trace keep left same = record {
+  size = ap length same;
+  rest = λ t k at. go t k at;
+  order = λ a b i j less at_a at_b. cc;
+  members = λ p. (λ c. absurd (contains_none p c), λ h. let less = h.0 in absurd (omega arith));
+}
+  where
+    go : (t k : ℕ) → slice_get left t ≡ Some k → k ≡ slice_index keep t - count_of trace t 0
+    go t k at =
+        let read : unwrap_or (slice_get keep t) 0 ≡ slice_index keep t = unwrap_or-slice_get keep t 0 in
+        let there : slice_get keep t ≡ Some k = ap (λ (l : List ℕ). slice_get l t) (sym same) ∙ at in
+        let is : unwrap_or (slice_get keep t) 0 ≡ k = ap (λ (o : Option ℕ). unwrap_or o 0) there in
+        let none : count_of trace t 0 ≡ 0 = refl in
+        omega arith
+
+-- the event at place n is of thread t
+module _ (trace : List Event) (keep : List ℕ) (n t : ℕ) (own : thread_at trace n ≡ Some t) where
+  -- the place is one of the trace
+  within : n < length trace
+  within = within_from_thread trace n t own
+
+  -- the thread has one event more
+  count_own : count_of trace t (n + 1) ≡ count_of trace t n + 1
+  count_own =
+      let inside = within in
+      let before : count_of trace t n ≡ tally n (is_own trace t) = count_is_tally (λ (e : Event). e.thread == t) trace n (omega arith) in
+      let after : count_of trace t (suc n) ≡ one_if (is_own trace t n) + tally n (is_own trace t) = count_is_tally (λ (e : Event). e.thread == t) trace (suc n) (omega arith) in
+      let here : one_if (is_own trace t n) ≡ 1 = ap one_if (own_from_thread trace t n own) in
+      let same : count_of trace t (n + 1) ≡ count_of trace t (suc n) = (let one : n + 1 ≡ suc n = omega arith in ap (count_of trace t) one) in
+      omega arith
+
+  -- any other has not
+  count_other : (u : ℕ) → u ≢ t → count_of trace u (n + 1) ≡ count_of trace u n
+  count_other u other =
+      let inside = within in
+      let before : count_of trace u n ≡ tally n (is_own trace u) = count_is_tally (λ (e : Event). e.thread == u) trace n (omega arith) in
+      let after : count_of trace u (suc n) ≡ one_if (is_own trace u n) + tally n (is_own trace u) = count_is_tally (λ (e : Event). e.thread == u) trace (suc n) (omega arith) in
+      let here : one_if (is_own trace u n) ≡ 0 = ap one_if (false_unless (is_own trace u n) (λ h. other (let there = thread_from_own trace u n h in let is = own in let same : u ≡ t = cc in same))) in
+      let same : count_of trace u (n + 1) ≡ count_of trace u (suc n) = (let one : n + 1 ≡ suc n = omega arith in ap (count_of trace u) one) in
+      omega arith
+
+  -- the number of the place within its thread
+  local_here : local_of trace n ≡ count_of trace t n
+  local_here = let inside = within in local_is_tally trace t n own (omega arith) ∙ sym (count_is_tally (λ (e : Event). e.thread == t) trace n (omega arith))
+
+  -- the kept places before place n
+  module _ (left places : List ℕ) (k : ℕ) (at : slice_get left t ≡ Some k) (old : AreKeptBefore trace keep n left places) where
+    -- what is left of the thread
+    is_left : k ≡ slice_index keep t - count_of trace t n
+    is_left = old.rest t k at
+
+    -- where none of the thread is left, the place is not kept
+    pub kept_past : k ≡ 0 → AreKeptBefore trace keep (n + 1) left places
+    kept_past none = record {
+      size = old.size;
+      rest = λ u m there. going u m there (cases_eq u t);
+      order = old.order;
+      members = λ p. (λ c. let h = (old.members p).0 c in (let less = h.0 in omega arith, h.1), λ h. back p h (cases_eq p n));
+    }
+      where
+        going : (u m : ℕ) → slice_get left u ≡ Some m → (u ≡ t) ⊎ (u ≢ t) → m ≡ slice_index keep u - count_of trace u (n + 1)
+        going u m there (inl same) =
+            let here : slice_get left t ≡ Some m = subst (λ (v : ℕ). slice_get left v ≡ Some m) same there in
+            let is : m ≡ k = cc in
+            let before = is_left in
+            let more = count_own in
+            let done : m ≡ slice_index keep t - count_of trace t (n + 1) = omega arith in
+            subst (λ (v : ℕ). m ≡ slice_index keep v - count_of trace v (n + 1)) (sym same) done
+        going u m there (inr other) = old.rest u m there ∙ ap (λ (c : ℕ). slice_index keep u - c) (sym (count_other u other))
+
+        back : (p : ℕ) → (p < n + 1) × IsKept trace keep p → (p ≡ n) ⊎ (p ≢ n) → Contains places p
+        back p h (inl same) = absurd (not_here (subst (IsKept trace keep) same h.1))
+          where
+            not_here : IsKept trace keep n → ⊥
+            not_here is =
+                let there = is.is_of in
+                let mine = own in
+                let thread : is.thread ≡ t = cc in
+                let below : local_of trace n < slice_index keep t = subst (λ (v : ℕ). local_of trace n < slice_index keep v) thread is.below in
+                let number = local_here in
+                let before = is_left in
+                omega arith
+        back p h (inr place) = (old.members p).1 (let less = h.0 in omega (arith, place), h.1)
+
+    -- where some is left, it is
+    pub kept_next : 0 < k → AreKeptBefore trace keep (n + 1) (slice_set left t (k - 1)) (places ++ n ∷ [])
+    kept_next some = record {
+      size = length-set left t (k - 1) ∙ old.size;
+      rest = λ u m there. going u m there (cases_eq u t);
+      order = Rises-push places n old.order (λ i c. ((old.members i).0 c).0);
+      members = λ p. (λ c. forth p (Contains-push_cases places n p c), λ h. back p h (cases_eq p n));
+    }
+      where
+        going : (u m : ℕ) → slice_get (slice_set left t (k - 1)) u ≡ Some m → (u ≡ t) ⊎ (u ≢ t) → m ≡ slice_index keep u - count_of trace u (n + 1)
+        going u m there (inl same) =
+            let now : slice_get (slice_set left t (k - 1)) t ≡ Some (k - 1) = slice_get-set_same left t (k - 1) (slice_get_within left t k at) in
+            let here : slice_get (slice_set left t (k - 1)) t ≡ Some m = subst (λ (v : ℕ). slice_get (slice_set left t (k - 1)) v ≡ Some m) same there in
+            let is : m ≡ k - 1 = cc in
+            let before = is_left in
+            let more = count_own in
+            let done : m ≡ slice_index keep t - count_of trace t (n + 1) = omega arith in
+            subst (λ (v : ℕ). m ≡ slice_index keep v - count_of trace v (n + 1)) (sym same) done
+        going u m there (inr other) = old.rest u m (sym (slice_get-set_other left t u (k - 1) other) ∙ there) ∙ ap (λ (c : ℕ). slice_index keep u - c) (sym (count_other u other))
+
+        here : IsKept trace keep n
+        here = record { thread = t; is_of = own; below = let number = local_here in let before = is_left in omega arith }
+
+        forth : (p : ℕ) → Contains places p ⊎ (n ≡ p) → (p < n + 1) × IsKept trace keep p
+        forth p (inl c) = let h = (old.members p).0 c in (let less = h.0 in omega arith, h.1)
+        forth p (inr same) = subst (λ (q : ℕ). (q < n + 1) × IsKept trace keep q) same (omega arith, here)
+
+        back : (p : ℕ) → (p < n + 1) × IsKept trace keep p → (p ≡ n) ⊎ (p ≢ n) → Contains (places ++ n ∷ []) p
+        back p h (inl same) = subst (λ (q : ℕ). Contains (places ++ n ∷ []) q) (sym same) (Contains-push places n)
+        back p h (inr place) = Contains-append_left places (n ∷ []) p ((old.members p).1 (let less = h.0 in omega (arith, place), h.1))
+
+-- the kept places before the end of the trace are all
+pub all_kept : (trace : List Event) (keep : List ℕ) (n : ℕ) (left places : List ℕ) → length trace ≤ n → AreKeptBefore trace keep n left places → AreKept trace keep places
+all_kept trace keep n left places all kept = record {
+  order = kept.order;
+  members = λ p. (λ c. ((kept.members p).0 c).1, λ is. (kept.members p).1 (let inside = within_from_thread trace p is.thread is.is_of in omega arith, is));
+}

@@ -1,0 +1,3 @@
+pub mod Tallied
+pub mod Keeping
+pub mod Leading

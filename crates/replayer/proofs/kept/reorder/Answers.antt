@@ -1,0 +1,56 @@
+use Rattle.std.proofs.Common.{◌≡◌, ◌<◌, Some, length, slice_get, sym, ap, subst, ◌∙◌, arith}
+use Rattle.std.proofs.lemmas.Option.{slice_get-get_or}
+use Rattle.trace_laws.specs.Event.{Event}
+use Rattle.trace_laws.specs.Trace.{thread_at}
+use Rattle.trace_laws.proofs.Places.{thread_from_event}
+use Rattle.replayer.proofs.Keeping.{kept_none, kept_past, kept_next, all_kept}
+use Rattle.replayer.proofs.Leading.{kept_follow}
+use Rattle.replayer.proofs.kept.reorder.Goals as goal
+use Rattle.replayer.proofs.kept.reorder.Goals.{then-count-gt0+in-Ok, else-count-gt0}
+
+pub index-count-requires : goal.index-count-requires
+index-count-requires c =
+    let less = (c.len-place-end.ensures.trace.named c.loop-place.place c.event.result c.event.ensures).0 in
+    let own : c.value-thread.result ≡ c.event.result.thread = c.value-thread.ensures.value ∙ ap (λ (e : Event). e.thread) c.event-in-loop-place.view_is in
+    let size = c.loop-place.invariant.size in
+    let counts = c.requires in
+    omega arith
+
+pub index_mut-requires : goal.index_mut-requires
+index_mut-requires c =
+    let less = (c.len-place-end.ensures.trace.named c.loop-place.place c.event.result c.event.ensures).0 in
+    let own : c.value-thread.result ≡ c.event.result.thread = c.value-thread.ensures.value ∙ ap (λ (e : Event). e.thread) c.event-in-loop-place.view_is in
+    let size = c.loop-place.invariant.size in
+    let counts = c.requires in
+    omega arith
+
+pub loop-place-preserved : goal.loop-place-preserved
+loop-place-preserved c =
+    let trace = c.args.trace.now.events in
+    let keep = c.args.keep.now in
+    let at = c.loop-place in
+    let t = c.value-thread.result in
+    let k = c.index-count.result.now in
+    let thread : c.value-thread.result ≡ c.event.result.thread = c.value-thread.ensures.value ∙ ap (λ (e : Event). e.thread) c.event-in-loop-place.view_is in
+    let own : thread_at trace at.place ≡ Some t = thread_from_event trace at.place c.event.result c.event.ensures ∙ ap Some (sym thread) in
+    let less = (c.len-place-end.ensures.trace.named at.place c.event.result c.event.ensures).0 in
+    let size = at.invariant.size in
+    let counts = c.requires in
+    let read : slice_get at.left.items t ≡ Some k = slice_get-get_or at.left.items t k (omega arith) ∙ ap Some (sym c.index-count.ensures) in
+    elim c.if-count-gt0.branch [
+      | then-count-gt0+in-Ok w ↦ rw (w.left-is, w.places-is, w.in-Ok.ensures.items) (kept_next trace keep at.place t own at.left.items at.places.items k read at.invariant w.if-count-gt0.true)
+      | else-count-gt0 w ↦ rw (w.left-is, w.places-is) (kept_past trace keep at.place t own at.left.items at.places.items k read at.invariant (let none = w.if-count-gt0.false in omega arith))
+    ]
+
+pub returns-clause-kept : goal.returns-clause-kept
+returns-clause-kept c =
+    let end = c.len-place-end.ensures.value in
+    let past = c.loop-place-test.false in
+    all_kept c.args.trace.now.events c.args.keep.now c.loop-place.place c.loop-place.left.items c.loop-place.places.items (omega arith) c.loop-place.invariant
+
+pub returns-clause-least : goal.returns-clause-least
+returns-clause-least c =
+    let end = c.len-place-end.ensures.value in
+    let past = c.loop-place-test.false in
+    kept_follow c.args.trace.now c.len-place-end.ensures.trace c.args.keep.now c.loop-place.places.items
+    (all_kept c.args.trace.now.events c.args.keep.now c.loop-place.place c.loop-place.left.items c.loop-place.places.items (omega arith) c.loop-place.invariant)

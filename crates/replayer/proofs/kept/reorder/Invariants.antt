@@ -1,0 +1,5 @@
+use Rattle.replayer.proofs.Keeping.{AreKeptBefore}
+use Rattle.replayer.proofs.kept.reorder.Given as goal
+
+abbrev pub invariant-loop-place : goal.invariant-loop-place
+invariant-loop-place l = AreKeptBefore l.trace.events l.keep l.place l.left.items l.places.items
