@@ -62,24 +62,27 @@ fn admit_joined(paths: &Paths, cuts: &mut Cuts, event: &Event, place: u32)
     admit_thread(paths, cuts, *joined, place);
 }
 
-/// Admits the places before the place in program order.
-pub fn admit_before(paths: &Paths, cuts: &mut Cuts, place: u32)
+/// Admits the places before the place, at which the event stands, in program order.
+pub fn admit_before(paths: &Paths, cuts: &mut Cuts, event: &Event, place: u32)
     requires cuts { length cuts.old ≡ paths.now.threads }
     requires place { place < length paths.now.events }
+    requires event { slice_get paths.now.events place ≡ Some event.now }
+    requires thread { event.now.thread < paths.now.threads }
+    requires named { NamesBelow event.now.op paths.now.threads }
     ensures { Admits paths.now.events (λ i. Before paths.now.events i place) cuts.old cuts.new }
 {
-    let event = paths.event(place);
     admit_thread(paths, cuts, event.thread, place);
-    admit_joined(paths, cuts, &event, place);
+    admit_joined(paths, cuts, event, place);
 }
 
-// Admits the writer of the place.
-fn admit_writer(paths: &Paths, cuts: &mut Cuts, place: u32)
+// Admits the writer of the place, at which the event stands.
+fn admit_writer(paths: &Paths, cuts: &mut Cuts, event: &Event, place: u32)
     requires cuts { length cuts.old ≡ paths.now.threads }
     requires place { place < length paths.now.events }
+    requires event { slice_get paths.now.events place ≡ Some event.now }
     ensures { Admits paths.now.events (IsWriterOfRead paths.now.events place) cuts.old cuts.new }
 {
-    let Some(writer) = paths.writer(place) else {
+    let Some(writer) = paths.writer(event, place) else {
         return;
     };
     admit_place(paths, cuts, writer);
@@ -100,13 +103,16 @@ fn admit_release(paths: &Paths, cuts: &mut Cuts, given: Option<u32>, place: u32)
     admit_place(paths, cuts, release);
 }
 
-/// Admits what the place needs, where the latest acquire of its lock is given.
-pub fn admit_needs(paths: &Paths, cuts: &mut Cuts, latest: Option<u32>, place: u32)
+/// Admits what the place needs, at which the event stands, where the latest acquire of its lock is given.
+pub fn admit_needs(paths: &Paths, cuts: &mut Cuts, event: &Event, latest: Option<u32>, place: u32)
     requires cuts { length cuts.old ≡ paths.now.threads }
     requires place { place < length paths.now.events }
+    requires event { slice_get paths.now.events place ≡ Some event.now }
+    requires thread { event.now.thread < paths.now.threads }
+    requires named { NamesBelow event.now.op paths.now.threads }
     ensures { Admits paths.now.events (Needs paths.now.events latest place) cuts.old cuts.new }
 {
-    admit_before(paths, cuts, place);
-    admit_writer(paths, cuts, place);
+    admit_before(paths, cuts, event, place);
+    admit_writer(paths, cuts, event, place);
     admit_release(paths, cuts, latest, place);
 }

@@ -115,12 +115,12 @@ impl<'a> Paths<'a> {
         entry(&self.forks, u32::from(thread.value()))
     }
 
-    /// The writer of the place, where it is a read that has one.
-    pub fn writer(&self, place: u32) -> Option<u32>
-        requires { place < length self.now.events }
+    /// The writer of the place, at which the event stands, where that is a read that has one.
+    pub fn writer(&self, event: &Event, place: u32) -> Option<u32>
+        requires { slice_get self.now.events place ≡ Some event.now }
         ensures { (w : ℕ) → (result ≡ Some w) ↔ IsWriterOfRead self.now.events place w }
     {
-        match &self.index.trace().event(place).op {
+        match &event.op {
             Op::Read(_) => self.index.writer(place),
             _ => None,
         }

@@ -101,7 +101,7 @@ impl State {
     {
         let event = paths.event(place);
         let latest = self.latest.of(&event);
-        admit_needs(paths, &mut self.cuts, latest, place);
+        admit_needs(paths, &mut self.cuts, &event, latest, place);
         self.latest.note(&event, place);
         self.counts[event.thread.value() as usize] += 1;
         self.fronts.set(event.thread, paths.next(place));
@@ -141,7 +141,7 @@ impl State {
         ensures rest { IsAtRest paths.now.events paths.now.threads self.new }
         ensures closure { IsClosure paths.now.events (λ i. IsTrue (has (flags_of paths.now.events self.old.cuts) i) ⊎ Before paths.now.events i place) (has (flags_of paths.now.events self.new.cuts)) }
     {
-        admit_before(paths, &mut self.cuts, place);
+        admit_before(paths, &mut self.cuts, &paths.event(place), place);
         self.close(paths);
     }
 }

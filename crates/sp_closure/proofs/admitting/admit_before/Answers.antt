@@ -11,8 +11,8 @@ pub returns : goal.returns
 returns c =
     let events = c.args.paths.now.events in
     let place = c.args.place in
-    let e = c.event-event.result in
-    let at = c.event-event.ensures.event in
+    let e = c.args.event.now in
+    let at = c.requires.event in
     let old = c.args.cuts.now in
     let mid = c.admit_thread.new.cuts in
     let new = c.admit_joined.new.cuts in

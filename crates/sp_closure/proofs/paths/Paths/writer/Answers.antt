@@ -11,13 +11,13 @@ pub returns-in-Read : goal.returns-in-Read
 returns-in-Read c =
     let events = c.self.inside.index.now.events in
     let x = c.in-Read.field-0 in
-    let at = subst (λ (h : History). slice_get h.events c.args.place ≡ Some c.event.result) c.trace.ensures.value c.event.ensures in
-    let reads : Reads events c.args.place x = op_from_event events c.args.place c.event.result at ∙ ap Some (sym (ap (λ (e : Event). e.op) c.event-2.view_is) ∙ c.in-Read.is) in
+    let at = subst (λ (h : History). slice_get h.events c.args.place ≡ Some c.args.event.now) (sym c.self.view_is) c.requires in
+    let reads : Reads events c.args.place x = op_from_event events c.args.place c.args.event.now at ∙ ap Some (sym (ap (λ (e : Event). e.op) c.event.view_is) ∙ c.in-Read.is) in
     rw (← c.self.view_is) (writer_tells events c.args.place x c.writer.result reads (c.writer.ensures x reads))
 
 pub returns-in_default : goal.returns-in_default
 returns-in_default c =
     let events = c.self.inside.index.now.events in
-    let at = subst (λ (h : History). slice_get h.events c.args.place ≡ Some c.event.result) c.trace.ensures.value c.event.ensures in
-    let op = op_from_event events c.args.place c.event.result at in
-    rw (← c.self.view_is) (no_writer events c.args.place (λ x reads. c.in_default.not-Read x (ap (λ (e : Event). e.op) c.event-2.view_is ∙ (let same : c.event.result.op ≡ Read x = cc in same))))
+    let at = subst (λ (h : History). slice_get h.events c.args.place ≡ Some c.args.event.now) (sym c.self.view_is) c.requires in
+    let op = op_from_event events c.args.place c.args.event.now at in
+    rw (← c.self.view_is) (no_writer events c.args.place (λ x reads. c.in_default.not-Read x (ap (λ (e : Event). e.op) c.event.view_is ∙ (let same : c.args.event.now.op ≡ Read x = cc in same))))
