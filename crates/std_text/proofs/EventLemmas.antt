@@ -13,7 +13,7 @@ use Rattle.std_text.specs.Fields.{Parts}
 use Rattle.std_text.specs.Law.{Tells, law_fault, kind_of, IsFirstBroken}
 use Rattle.std_text.specs.Meaning.{Reading, refused, read_parts, read_lawful, event_of, with_operand, with_thread, with_names, fits, too_many, op_on}
 use Rattle.std_text.specs.Refusal.{refusal_of}
-use Rattle.std_text.proofs.LawLemmas.{computes_laws, refused_for}
+use Rattle.std_text.proofs.LawLemmas.{computes_laws, refused_for, none_broken}
 
 -- the event of a line
 pub event_is : (r : Reading) (p : Parts) (e : Event) (first : NameLists) → first ≡ with_thread r.names p.thread → e.thread ≡ (event_of r p).thread → e.op ≡ op_on first p.action p.operand → e.loc ≡ p.location → e ≡ event_of r p
@@ -57,24 +57,22 @@ no_operand r p less threads over = rw (lt-leb MAX_EVENTS (length r.events) less,
 -- ---- where there is room for all
 
 module _ (r : Reading) (p : Parts) (e : Event) (is : e ≡ event_of r p) (less : length r.events < MAX_EVENTS) (threads : length (with_name r.names.threads p.thread) ≤ MAX_THREADS)
-    (operand : fits (with_names r.names p) p.action ≡ true) (tells : Tells r.events) where
-  -- the builder before the line
-  abbrev built : Built
-  built = record { events = r.events; capacity = MAX_EVENTS }
-
+    (operand : fits (with_names r.names p) p.action ≡ true) where
   -- the law of the line's event decides
   by_law_of : read_parts r p ≡ read_lawful r p (law_fault r.events (event_of r p))
   unfolding read_parts
   by_law_of = rw (lt-leb MAX_EVENTS (length r.events) less, le-ltb MAX_THREADS (length (with_name r.names.threads p.thread)) threads, operand) refl
 
   -- which is that of the event
-  by_law : (o : Option LawFault) → law_fault r.events e ≡ o → read_parts r p ≡ read_lawful r p o
+  pub by_law : (o : Option LawFault) → law_fault r.events e ≡ o → read_parts r p ≡ read_lawful r p o
   by_law o law = by_law_of ∙ ap (read_lawful r p) (ap (law_fault r.events) (sym is) ∙ law)
 
-  -- an event that may follow breaks no law
-  no_fault : MayFollow r.events e → (o : Option LawFault) → IsFirstBroken r.events e o → o ≡ None
-  no_fault follows None broken = refl
-  no_fault follows (Some f) broken = absurd (refused_not_accepted built e f (refused_for built e f less broken) (less, follows))
+-- the holders being computed rightly
+module _ (r : Reading) (p : Parts) (e : Event) (is : e ≡ event_of r p) (less : length r.events < MAX_EVENTS) (threads : length (with_name r.names.threads p.thread) ≤ MAX_THREADS)
+    (operand : fits (with_names r.names p) p.action ≡ true) (tells : Tells r.events) where
+  -- the builder before the line
+  abbrev built : Built
+  built = record { events = r.events; capacity = MAX_EVENTS }
 
   -- the law that a refused event breaks
   the_fault : (f : LawFault) → IsRefusedFor built e f → ((g : LawFault) → IsRefusedFor built e g → g ≡ f) → (o : Option LawFault) → IsFirstBroken r.events e o → o ≡ Some f
@@ -84,8 +82,8 @@ module _ (r : Reading) (p : Parts) (e : Event) (is : e ≡ event_of r p) (less :
   -- the event was appended
   pub appended : (events : List Event) (names : NameLists) → events ≡ r.events ++ e ∷ [] → names ≡ with_names r.names p → MayFollow r.events e → read_parts r p ≡ Ok (record { events = events; names = names; line = r.line + 1 })
   appended events names events_are names_is follows =
-      by_law None (no_fault follows (law_fault r.events e) (computes_laws r.events tells e)) ∙ rw (events_are, names_is, is) refl
+      by_law r p e is less threads operand None (none_broken r.events e follows (law_fault r.events e) (computes_laws r.events tells e)) ∙ rw (events_are, names_is, is) refl
 
   -- or its law was broken
   pub broken : (f : LawFault) → IsRefusedFor (record { events = r.events; capacity = MAX_EVENTS }) e f → ((g : LawFault) → IsRefusedFor (record { events = r.events; capacity = MAX_EVENTS }) e g → g ≡ f) → read_parts r p ≡ Err (refusal_of r.names (record { line = r.line; kind = kind_of f }))
-  broken f h one = by_law (Some f) (the_fault f h one (law_fault r.events e) (computes_laws r.events tells e))
+  broken f h one = by_law r p e is less threads operand (Some f) (the_fault f h one (law_fault r.events e) (computes_laws r.events tells e))

@@ -5,7 +5,7 @@ use Rattle.std.specs.Option.{option_map}
 use Rattle.trace_laws.specs.Event.{Event}
 use Rattle.trace_laws.specs.declared.event.Op.{Op}
 use Rattle.trace_laws.specs.declared.event.Op.TheVariants.{Read, Write, Acquire, Release, Fork, Join}
-use Rattle.trace_laws.specs.Trace.{thread_at, op_at, Holds, LockLaw, Lawful}
+use Rattle.trace_laws.specs.Trace.{thread_at, op_at, Holds, LockLaw, ThreadLaw, IsJoined, MayFollow, Lawful}
 use Rattle.trace_laws.proofs.Places.{slice_get-append_left, slice_get-append_seam}
 use Rattle.std_text.specs.Law.{Tells}
 use Rattle.std_text.proofs.HolderLemmas.{tells_none, tells_push}
@@ -47,14 +47,37 @@ module _ (front more : List Event) where
   law_in_front t (Fork u) law = tt
   law_in_front t (Join u) law = tt
 
+  -- what is joined, forked or started in the front is so in the whole
+  joined_in_whole : (u : ℕ) → IsJoined front (length front) u → IsJoined (front ++ more) (length front) u
+  joined_in_whole u h = (h.0, h.1, op_same h.0 h.1 ∙ h.2)
+
+  -- the law of threads of the event behind the front is that after the front
+  threads_in_front : (t : ℕ) (o : Op) → ThreadLaw (front ++ more) (length front) t o → ThreadLaw front (length front) t o
+  threads_in_front t (Fork u) law = (law.0, (λ h. law.1 (joined_in_whole u h)), (λ h. law.2 (h.0, h.1, op_same h.0 h.1 ∙ h.2)), (λ h. law.3 (h.0, h.1, thread_same h.0 h.1 ∙ h.2)))
+  threads_in_front t (Join u) law = law
+  threads_in_front t (Acquire l) law = tt
+  threads_in_front t (Release l) law = tt
+  threads_in_front t (Read x) law = tt
+  threads_in_front t (Write x) law = tt
+
+-- an event of a lawful trace may follow those before it
+pub follows_front : (front back : List Event) (e : Event) → Lawful (front ++ e ∷ back) → MayFollow front e
+follows_front front back e lawful =
+    let whole : (front ++ e ∷ []) ++ back ≡ front ++ e ∷ back = append_assoc front (e ∷ []) back in
+    let last : slice_get (front ++ e ∷ []) (length front) ≡ Some e = slice_get-append_seam front e in
+    let at : slice_get (front ++ e ∷ back) (length front) ≡ Some e = ap (λ (xs : List Event). slice_get xs (length front)) (sym whole) ∙ slice_get-append_left (front ++ e ∷ []) back (length front) (omega (arith, length-append front (e ∷ []))) ∙ last in
+    let laws = lawful (length front) e at in record {
+      not_joined = λ h. laws.not_joined (joined_in_whole front (e ∷ back) e.thread h);
+      locks = law_in_front front (e ∷ back) e.thread e.op laws.locks;
+      threads = threads_in_front front (e ∷ back) e.thread e.op laws.threads;
+    }
+
 -- event by event
 tells_from : (front back : List Event) → Tells front → Lawful (front ++ back) → Tells (front ++ back)
 tells_from front [] tells lawful = subst Tells (sym (append-nil front)) tells
 tells_from front (e ∷ back) tells lawful =
     let whole : (front ++ e ∷ []) ++ back ≡ front ++ e ∷ back = append_assoc front (e ∷ []) back in
-    let last : slice_get (front ++ e ∷ []) (length front) ≡ Some e = slice_get-append_seam front e in
-    let at : slice_get (front ++ e ∷ back) (length front) ≡ Some e = ap (λ (xs : List Event). slice_get xs (length front)) (sym whole) ∙ slice_get-append_left (front ++ e ∷ []) back (length front) (omega (arith, length-append front (e ∷ []))) ∙ last in
-    let law = law_in_front front (e ∷ back) e.thread e.op (lawful (length front) e at).locks in
+    let law = (follows_front front back e lawful).locks in
     subst Tells whole (tells_from (front ++ e ∷ []) back (tells_push front e law tells) (subst Lawful (sym whole) lawful))
 
 -- in a lawful trace the holders are computed rightly

@@ -1,5 +1,5 @@
 -- The law of an event, as computed and as defined.
-use Rattle.std.proofs.Common.{◌≡◌, ◌≢◌, ℕ, suc, ◌<◌, Bool, true, false, ◌||◌, ◌==◌, cond, List, [], ◌∷◌, length, Option, Some, None, ◌⊎◌, inl, inr, refl, sym, ap, subst, ◌∙◌, eq-eqb, eqb-true, true≢false}
+use Rattle.std.proofs.Common.{◌≡◌, ◌≢◌, ℕ, suc, ◌+◌, ◌<◌, Bool, true, false, ◌||◌, ◌==◌, cond, List, [], ◌∷◌, length, Option, Some, None, ◌⊎◌, inl, inr, refl, sym, ap, subst, ◌∙◌, arith, eq-eqb, eqb-true, true≢false}
 use Rattle.std.specs.Prelude.{slice_get}
 use Rattle.std.specs.List.{list_any}
 use Rattle.std.proofs.lemmas.Bool.{cases_eq, ne_eqb}
@@ -10,8 +10,9 @@ use Rattle.trace_laws.specs.declared.event.Op.{Op}
 use Rattle.trace_laws.specs.declared.event.Op.TheVariants.{Read, Write, Acquire, Release, Fork, Join}
 use Rattle.trace_laws.specs.declared.builder.LawFault.{LawFault}
 use Rattle.trace_laws.specs.declared.builder.LawFault.TheVariants as law
-use Rattle.trace_laws.specs.Trace.{IsJoined, IsForked, HasStarted}
+use Rattle.trace_laws.specs.Trace.{IsJoined, IsForked, HasStarted, MayFollow}
 use Rattle.trace_laws.specs.Faults.{Built, Judges, OperationFault, BreaksFirst, IsRefusedFor}
+use Rattle.trace_laws.proofs.Refusals.{refused_not_accepted}
 use Rattle.trace_laws.proofs.Places.{event_of, op_from_event, thread_from_event, mapped_from}
 use Rattle.std_text.specs.Law.{holder, Tells, is_fork_of, is_join_of, is_forked, is_joined, has_started, acquire_fault, release_fault, fork_fault, operation_fault, IsFirstBroken, ComputesLaws}
 
@@ -186,3 +187,10 @@ refused_for built e law.NotHeld room h = (room, h)
 refused_for built e law.SelfThread room h = (room, h)
 refused_for built e law.ForkTwice room h = (room, h)
 refused_for built e law.ForkLate room h = (room, h)
+
+-- an event that may follow breaks no law
+pub none_broken : (events : List Event) (e : Event) → MayFollow events e → (o : Option LawFault) → IsFirstBroken events e o → o ≡ None
+none_broken events e follows None broken = refl
+none_broken events e follows (Some f) broken =
+    let built : Built = record { events = events; capacity = length events + 1 } in
+    absurd (refused_not_accepted built e f (refused_for built e f (omega arith) broken) (omega arith, follows))

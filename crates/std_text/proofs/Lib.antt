@@ -6,3 +6,7 @@ pub mod LawLemmas
 pub mod EventLemmas
 pub mod Holders
 pub mod HolderNames
+pub mod Spelling
+pub mod Numbering
+pub mod Renumbering
+pub mod ReadAgain

@@ -3,5 +3,6 @@ pub mod Framing
 pub mod Law
 pub mod Meaning
 pub mod Refusal
+pub mod Rereading
 pub mod Told
 pub mod Writing

@@ -8,6 +8,7 @@ mod framing;
 mod law;
 mod line;
 mod reader;
+mod rereading;
 #[cfg(test)]
 mod tests;
 mod writing;
@@ -16,4 +17,5 @@ pub use fault::{ReadFault, StdFault, StdKind};
 pub use framing::pieces_are_the_text;
 pub use law::computed_laws_are_the_laws;
 pub use reader::Reader;
+pub use rereading::written_text_is_read;
 pub use writing::write_event;

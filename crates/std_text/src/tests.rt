@@ -3,7 +3,10 @@ ghost use Rattle.std.specs.Prelude.{◌≡◌, false};
 ghost use Rattle.std_text.specs.Refusal.{IsHolderGiven};
 ghost use Rattle.std_text.specs.Told.{IsHolderKnown};
 
-use crate::{ReadFault, Reader, StdKind, computed_laws_are_the_laws, pieces_are_the_text};
+use crate::{
+    ReadFault, Reader, StdKind, computed_laws_are_the_laws, pieces_are_the_text,
+    written_text_is_read,
+};
 use std::alloc::{AllocError, Global};
 use std::test::Fail;
 use trace_laws::{Names, Trace};
@@ -417,6 +420,7 @@ fn the_trace_and_the_names(rt: HostRuntime) -> Result<(), Fail> {
     let (trace, names) = read(rt.alloc(), text)?;
     computed_laws_are_the_laws(&trace);
     pieces_are_the_text();
+    written_text_is_read();
     assert_eq!(rt; [trace.len(), names.locks(), names.vars()], [4, 2, 1]);
     assert_eq!(rt; [trace.threads(), names.threads()], [2, 2]);
     Ok(())
