@@ -1,10 +1,10 @@
 -- What is written of a trace is read again as the same trace.
-use Rattle.std.proofs.Common.{◌≡◌, ◌≢◌, ℕ, zero, suc, ◌+◌, ◌-◌, ◌<◌, ◌≤◌, ◌^◌, Bool, true, false, true≢false, not, cond, ◌&&◌, ◌==◌, List, [], ◌∷◌, ◌++◌, length, map, get_or, Option, Some, None, Ok, ◌⊎◌, inl, inr, refl, sym, ap, subst, ◌∙◌, arith, append-nil, append_assoc, length-append, eqb-true, take}
-use Rattle.std.specs.Prelude.{slice_get, slice_index, nat_lt, unwrap_or, codes, flat_map}
+use Rattle.std.proofs.Common.{◌≡◌, ℕ, zero, suc, ◌+◌, ◌-◌, ◌<◌, ◌≤◌, ◌^◌, Bool, true, false, true≢false, not, cond, ◌&&◌, ◌==◌, List, [], ◌∷◌, ◌++◌, length, map, get_or, Some, None, Ok, refl, sym, ap, subst, ◌∙◌, arith, append-nil, append_assoc, length-append, eqb-true, take}
+use Rattle.std.specs.Prelude.{slice_get, slice_index, nat_lt, unwrap_or, codes}
 use Rattle.std.specs.List.{list_all}
 use Rattle.std.specs.Option.{option_map}
 use Rattle.std.specs.Fmt.{decimal}
-use Rattle.std.proofs.lemmas.Bool.{cases_eq, ne_eqb, not-true, lt-ltb, le-ltb, le-leb}
+use Rattle.std.proofs.lemmas.Bool.{ne_eqb, not-true, le-ltb, le-leb}
 use Rattle.std.proofs.lemmas.Fmt.{decimal_nonempty, length-decimal-le}
 use Rattle.std.proofs.lemmas.List.{length-map, map-append, get_or-append_right}
 use Rattle.std.proofs.lemmas.List.Folds.{list_all_at}
@@ -15,15 +15,15 @@ use Rattle.trace_laws.specs.Event.{Event}
 use Rattle.trace_laws.specs.declared.event.Op.{Op}
 use Rattle.trace_laws.specs.declared.event.Op.TheVariants.{Read, Write, Acquire, Release, Fork, Join}
 use Rattle.trace_laws.specs.Names.{NameLists, number_of, with_name}
-use Rattle.trace_laws.specs.Trace.{Lawful, MayFollow}
+use Rattle.trace_laws.specs.Trace.{Lawful}
 use Rattle.std_text.specs.declared.fields.Action.{Action}
 use Rattle.std_text.specs.declared.fields.Action.TheVariants as action
-use Rattle.std_text.specs.Fields.{Parts, bar, opening, closing, is_name, is_digit, line_says}
+use Rattle.std_text.specs.Fields.{Parts, bar, opening, closing, is_name, is_digit}
 use Rattle.std_text.specs.Law.{Tells, law_fault}
-use Rattle.std_text.specs.Meaning.{Reading, read_event, read_said, read_parts, event_of, with_thread, with_lock, with_var, with_operand, with_names, fits, op_on}
+use Rattle.std_text.specs.Meaning.{Reading, read_parts, event_of, with_thread, with_lock, with_var, with_operand, with_names, fits, op_on}
 use Rattle.std_text.specs.Refusal.{◌>>=◌}
-use Rattle.std_text.specs.Framing.{Progress, content, read_line, begun, start, after, closed}
-use Rattle.std_text.specs.Writing.{name_at, word_of, operand_name, IsNamed, IsOperandNamed, event_line, trace_text}
+use Rattle.std_text.specs.Framing.{Progress, content, read_line, start, after, closed}
+use Rattle.std_text.specs.Writing.{name_at, word_of, operand_name, IsOperandNamed, event_line, trace_text}
 use Rattle.std_text.specs.Rereading.{AreReadable, IsWritable, HasText, SaysSame, AreSame, WrittenIsRead}
 use Rattle.std_text.proofs.TextPieces.{after_append, after_none, after_byte, after_newline, no_last_line}
 use Rattle.std_text.proofs.EventLemmas.{by_law}
@@ -31,7 +31,7 @@ use Rattle.std_text.proofs.Holders.{follows_front}
 use Rattle.std_text.proofs.HolderLemmas.{tells_none, tells_push}
 use Rattle.std_text.proofs.LawLemmas.{computes_laws, none_broken}
 use Rattle.std_text.proofs.Spelling.{both, Says, says, plain, list_all-weaken, list_all-both, location_is, all_digits}
-use Rattle.std_text.proofs.Numbering.{has, place, with_number, spelled, AreNumbers, numbers_none, numbers_with, numbers_few, has_new, place_new, place_at, number_is, with_is}
+use Rattle.std_text.proofs.Numbering.{has, place, with_number, spelled, AreNumbers, numbers_none, numbers_with, numbers_few, place_new, place_at, number_is, with_is}
 use Rattle.std_text.proofs.Renumbering.{Came, op_with, event_with, HasAll, HaveAll, HasOperand, with_thread_number, with_operand_number, with_event, keeps_event, has_event, thread_place, more_events, have_push, law_none}
 
 -- ---- bytes of a line

@@ -1,14 +1,11 @@
 -- Events whose names have other numbers: the law that they break stays.
-use Rattle.std.proofs.Common.{◌≡◌, ℕ, Bool, true, false, ◌==◌, ◌||◌, cond, List, [], ◌∷◌, ◌++◌, map, Option, Some, None, ◌⊎◌, inl, inr, refl, sym, ap, ◌∙◌}
-use Rattle.std.specs.Prelude.{slice_get}
-use Rattle.std.specs.List.{list_any}
+use Rattle.std.proofs.Common.{◌≡◌, ℕ, Bool, true, false, ◌==◌, cond, List, [], ◌∷◌, ◌++◌, map, Option, Some, None, refl, sym, ap, ◌∙◌}
 use Rattle.std.specs.Option.{option_map}
 use Rattle.trace_laws.specs.Event.{Event}
 use Rattle.trace_laws.specs.declared.event.Op.{Op}
 use Rattle.trace_laws.specs.declared.event.Op.TheVariants.{Read, Write, Acquire, Release, Fork, Join}
-use Rattle.trace_laws.specs.declared.builder.LawFault.{LawFault}
 use Rattle.trace_laws.specs.declared.builder.LawFault.TheVariants as law
-use Rattle.std_text.specs.Law.{held_after, holder_from, holder, is_fork_of, is_join_of, is_forked, is_joined, has_started, acquire_fault, release_fault, fork_fault, operation_fault, law_fault}
+use Rattle.std_text.specs.Law.{held_after, holder_from, holder, is_fork_of, is_join_of, is_forked, is_joined, has_started, acquire_fault, release_fault, operation_fault, law_fault}
 use Rattle.std_text.proofs.Numbering.{has, place, with_number, has_new, has_more, place_more, same_place}
 
 -- the numbers that came, of each kind
