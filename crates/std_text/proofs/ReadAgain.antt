@@ -327,6 +327,23 @@ module _ (names : NameLists) (ts : AreReadable names.threads MAX_THREADS) (ls : 
     read : after (record { reading = reading g front line; rest = []; taken = taken }) (trace_text names back)
         ≡ Ok (record { reading = reading came (front ++ back) next; rest = []; taken = taken + length (trace_text names back) })
 
+  -- one line in front of lines that are read
+  read_more : (g new : Came) (front back : List Event) (e : Event) (line taken : ℕ)
+      → after (record { reading = reading g front line; rest = []; taken = taken }) (event_line names e) ≡ Ok (record { reading = reading new (front ++ e ∷ []) (line + 1); rest = []; taken = taken + length (event_line names e) })
+      → IsRead new (front ++ e ∷ []) back (line + 1) (taken + length (event_line names e)) → IsRead g front (e ∷ back) line taken
+  read_more g new front back e line taken first rest =
+      let p : Progress = record { reading = reading g front line; rest = []; taken = taken } in
+      let sizes = length-append (event_line names e) (trace_text names back) in
+      let whole : front ++ e ∷ [] ++ back ≡ front ++ e ∷ back = append_assoc front (e ∷ []) back in
+      let total : taken + length (event_line names e) + length (trace_text names back) ≡ taken + length (trace_text names (e ∷ back)) = omega arith in record {
+        came = rest.came;
+        next = rest.next;
+        sound = rest.sound;
+        all = subst (HaveAll rest.came) whole rest.all;
+        read = after_append p (event_line names e) (trace_text names back) ∙ ap (λ x. x >>= λ s. after s (trace_text names back)) first ∙ rest.read
+            ∙ (λ i. Ok (record { reading = reading rest.came (whole i) rest.next; rest = []; taken = total i }));
+      }
+
   -- line by line
   all_read : (g : Came) (front back : List Event) (line taken : ℕ) → Sound g → HaveAll g front → Tells front → Lawful (front ++ back) → AllWritable back → length (front ++ back) ≤ MAX_EVENTS
       → taken + length (trace_text names back) ≤ MAX_INPUT → IsRead g front back line taken
@@ -349,18 +366,7 @@ module _ (names : NameLists) (ts : AreReadable names.threads MAX_THREADS) (ls : 
       let kept = (more_events g new front (keeps_event g e) all).0 in
       let rest = all_read new (front ++ e ∷ []) back (line + 1) (taken + length (event_line names e)) (sound_event g front line e w sound all (omega arith) none) (have_push new front e kept (has_event g e))
       (tells_push front e (follows_front front back e lawful).locks tells) (subst Lawful (sym whole) lawful) writable.1 (rw whole few) (omega arith) in
-      let p : Progress = record { reading = reading g front line; rest = []; taken = taken } in
-      let q : Progress = record { reading = reading new (front ++ e ∷ []) (line + 1); rest = []; taken = taken + length (event_line names e) } in
-      let first : after p (event_line names e) ≡ Ok q = line_after g front line e w sound all (omega arith) none taken (omega arith) in
-      let then_rest : (after p (event_line names e) >>= λ s. after s (trace_text names back)) ≡ after q (trace_text names back) = ap (λ x. x >>= λ s. after s (trace_text names back)) first in
-      let total : taken + length (event_line names e) + length (trace_text names back) ≡ taken + length (trace_text names (e ∷ back)) = omega arith in record {
-        came = rest.came;
-        next = rest.next;
-        sound = rest.sound;
-        all = subst (HaveAll rest.came) whole rest.all;
-        read = after_append p (event_line names e) (trace_text names back) ∙ then_rest ∙ rest.read
-            ∙ (λ i. Ok (record { reading = reading rest.came (whole i) rest.next; rest = []; taken = total i }));
-      }
+      read_more g new front back e line taken (line_after g front line e w sound all (omega arith) none taken (omega arith)) rest
 
   -- ---- the same trace
 
