@@ -137,6 +137,20 @@ fn inputs_at_the_limit_and_past_it(rt: HostRuntime) -> Result<(), Fail> {
 }
 
 #[test]
+fn many_empty_blocks(rt: HostRuntime) -> Result<(), Fail> {
+    let alloc = rt.alloc();
+    let mut text = thread_lines(alloc, 1)?;
+    text.extend_from_slice(&repeated(alloc, b"repeat 65536\nend\n", 986_894)?)?;
+    let nothing = Left {
+        out: b"",
+        err: b"",
+        code: 0,
+    };
+    assert!(rt; leaves(&rt, alloc, "record", &text, 65_536, &nothing)?);
+    Ok(())
+}
+
+#[test]
 fn faults_of_the_outside(rt: HostRuntime) -> Result<(), Fail> {
     let alloc = rt.alloc();
     for (case, text, reads, writes, out, err, code) in [
