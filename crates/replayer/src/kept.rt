@@ -23,7 +23,8 @@ pub fn reorder(alloc: Global, trace: &Trace, keep: &Keep) -> Result<Vec<u32>, Ou
     for place in 0..trace.len() {
         let thread = trace.event(place).thread.value() as usize;
         let count = left[thread];
-        if count > 0 {
+        let is_kept = count > 0;
+        if is_kept {
             left[thread] = count - 1;
             let Ok(()) = places.push(place) else {
                 return Err(OutOfMemory);

@@ -6,7 +6,7 @@ use Rattle.trace_laws.proofs.Places.{thread_from_event}
 use Rattle.replayer.proofs.Keeping.{kept_none, kept_past, kept_next, all_kept}
 use Rattle.replayer.proofs.Leading.{kept_follow}
 use Rattle.replayer.proofs.kept.reorder.Goals as goal
-use Rattle.replayer.proofs.kept.reorder.Goals.{then-count-gt0+in-Ok, else-count-gt0}
+use Rattle.replayer.proofs.kept.reorder.Goals.{then-is_kept+in-Ok, else-is_kept}
 
 pub index-count-requires : goal.index-count-requires
 index-count-requires c =
@@ -37,9 +37,9 @@ loop-place-preserved c =
     let size = at.invariant.size in
     let counts = c.requires in
     let read : slice_get at.left.items t ≡ Some k = slice_get-get_or at.left.items t k (omega arith) ∙ ap Some (sym c.index-count.ensures) in
-    elim c.if-count-gt0.branch [
-      | then-count-gt0+in-Ok w ↦ rw (w.left-is, w.places-is, w.in-Ok.ensures.items) (kept_next trace keep at.place t own at.left.items at.places.items k read at.invariant w.if-count-gt0.true)
-      | else-count-gt0 w ↦ rw (w.left-is, w.places-is) (kept_past trace keep at.place t own at.left.items at.places.items k read at.invariant (let none = w.if-count-gt0.false in omega arith))
+    elim c.if-is_kept.branch [
+      | then-is_kept+in-Ok w ↦ rw (w.left-is, w.places-is, w.in-Ok.ensures.items) (kept_next trace keep at.place t own at.left.items at.places.items k read at.invariant w.if-is_kept.true)
+      | else-is_kept w ↦ rw (w.left-is, w.places-is) (kept_past trace keep at.place t own at.left.items at.places.items k read at.invariant (let none = w.if-is_kept.false in omega arith))
     ]
 
 pub returns-clause-kept : goal.returns-clause-kept
