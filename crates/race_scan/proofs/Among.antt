@@ -1,9 +1,8 @@
 -- Races among the places that share their variable with a later place.
 use Rattle.std.proofs.Common.{◌≡◌, ℕ, ◌+◌, ◌<◌, ◌≤◌, List, [], ◌∷◌, Bool, length, Some, None, ◌⊎◌, inl, inr, subst, arith, get_or}
-use Rattle.std.specs.Prelude.{Contains, IsTrue, slice_get}
+use Rattle.std.specs.Prelude.{IsTrue, slice_get}
 use Rattle.std.proofs.lemmas.Option.{slice_get_cases, slice_get-get_or}
 use Rattle.trace_laws.specs.Event.{Event}
-use Rattle.trace_laws.specs.Trace.{thread_at}
 use Rattle.trace_laws.specs.Traces.{History, AreNamedBelow}
 use Rattle.trace_laws.specs.Reordering.{Rises, Accesses}
 use Rattle.trace_laws.specs.Findings.{Races}
@@ -11,7 +10,7 @@ use Rattle.trace_laws.proofs.Places.{three_way, index_of, contains_at, contains_
 use Rattle.trace_laws.proofs.Enabling.{conflict_within}
 use Rattle.trace_index.specs.Accessed.{AreAccesses}
 use Rattle.trace_index.proofs.Accessing.{one_variable, access_within}
-use Rattle.race_scan.specs.Partners.{NoRaceBelow, IsCandidate, ArePlaces, ShareVariable, AreSharing, NoRaceAmong}
+use Rattle.race_scan.specs.Partners.{NoRaceBelow, IsCandidate, ArePlaces, AreSharing, NoRaceAmong}
 use Rattle.race_scan.proofs.Raised.{IsRaised, no_race_inside}
 
 -- the accesses of the variable of the later place share it

@@ -1,5 +1,5 @@
 -- Races on the variables of a range, from a place on.
-use Rattle.std.proofs.Common.{◌≡◌, ℕ, ◌+◌, ◌<◌, ◌≤◌, List, [], ◌∷◌, Option, Some, None, ◌⊎◌, inl, inr, subst, arith}
+use Rattle.std.proofs.Common.{◌≡◌, ℕ, ◌+◌, ◌<◌, List, [], ◌∷◌, Option, Some, None, ◌⊎◌, inl, inr, subst, arith}
 use Rattle.std.specs.Prelude.{IfNone}
 use Rattle.trace_laws.specs.Event.{Event}
 use Rattle.trace_laws.specs.Findings.{IsKeep, by_reorderings}

@@ -1,13 +1,12 @@
 -- The kept places of a keep are the least reordering that leaves its places enabled.
-use Rattle.std.proofs.Common.{◌≡◌, ℕ, ◌+◌, ◌<◌, ◌≤◌, Bool, true, false, List, length, Some, refl, subst, arith}
-use Rattle.std.specs.Prelude.{Contains, IsTrue, ◌↔◌, ◌&&◌, slice_index, slice_get}
-use Rattle.trace_laws.specs.Event.{Event}
-use Rattle.trace_laws.specs.Trace.{thread_at, Before, Lawful}
+use Rattle.std.proofs.Common.{◌≡◌, ℕ, ◌<◌, Bool, true, false, List, length, Some, refl, subst, arith}
+use Rattle.std.specs.Prelude.{Contains, IsTrue, ◌↔◌, ◌&&◌, slice_index}
+use Rattle.trace_laws.specs.Trace.{thread_at, Before}
 use Rattle.trace_laws.specs.Traces.{History, IsTrace}
-use Rattle.trace_laws.specs.Reordering.{CanLeave, LeavesEnabled, IsNeeded}
-use Rattle.trace_laws.specs.Findings.{HasCount, IsKeep, by_reorderings}
+use Rattle.trace_laws.specs.Reordering.{CanLeave, IsNeeded}
+use Rattle.trace_laws.specs.Findings.{IsKeep, by_reorderings}
 use Rattle.trace_laws.specs.Closed.{ListsInOrder, IsClosureBefore, AreOutside}
-use Rattle.trace_laws.specs.Kept.{local_of, IsKept, AreKept}
+use Rattle.trace_laws.specs.Kept.{IsKept, AreKept}
 use Rattle.trace_laws.proofs.Places.{before_less, within_from_thread, thread_from_event, true_unless}
 use Rattle.trace_laws.proofs.ClosedSets.{closed_sets_are_reorderings_lem}
 use Rattle.trace_laws.proofs.Enabling.{enabled_outside_closure_lem, needed_are_the_closure_lem}

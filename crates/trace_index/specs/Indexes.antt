@@ -1,5 +1,5 @@
 -- What an index keeps.
-use Rattle.std.specs.Prelude.{◌≡◌, ◌<◌, ◌↔◌, ℕ, List, Option, Some, length, slice_get}
+use Rattle.std.specs.Prelude.{◌≡◌, ◌<◌, ◌↔◌, ℕ, Option, Some, length, slice_get}
 use Rattle.trace_laws.specs.Traces.{History, IsTrace}
 use Rattle.trace_laws.specs.declared.event.Op.TheVariants.{Acquire}
 use Rattle.trace_laws.specs.Trace.{Reads, op_at, IsWriter, IsReleaseOf}

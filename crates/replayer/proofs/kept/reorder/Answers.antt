@@ -1,9 +1,9 @@
-use Rattle.std.proofs.Common.{◌≡◌, ◌<◌, Some, length, slice_get, sym, ap, subst, ◌∙◌, arith}
+use Rattle.std.proofs.Common.{◌≡◌, Some, slice_get, sym, ap, ◌∙◌, arith}
 use Rattle.std.proofs.lemmas.Option.{slice_get-get_or}
 use Rattle.trace_laws.specs.Event.{Event}
 use Rattle.trace_laws.specs.Trace.{thread_at}
 use Rattle.trace_laws.proofs.Places.{thread_from_event}
-use Rattle.replayer.proofs.Keeping.{kept_none, kept_past, kept_next, all_kept}
+use Rattle.replayer.proofs.Keeping.{kept_past, kept_next, all_kept}
 use Rattle.replayer.proofs.Leading.{kept_follow}
 use Rattle.replayer.proofs.kept.reorder.Goals as goal
 use Rattle.replayer.proofs.kept.reorder.Goals.{then-is_kept+in-Ok, else-is_kept}

@@ -1,5 +1,3 @@
-use Rattle.std.proofs.Common.{subst}
-use Rattle.trace_laws.specs.Traces.{History, IsTrace}
 use Rattle.sp_closure.proofs.Flags.{empty_flags}
 use Rattle.sp_closure.proofs.Resting.{fresh_at_rest}
 use Rattle.sp_closure.proofs.cursor.Cursor.with_room.Goals as goal
