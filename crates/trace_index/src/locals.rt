@@ -1,5 +1,5 @@
 // The numbers of places within their threads.
-ghost use Rattle.std.specs.Prelude.{◌≡◌, ◌<◌, ◌+◌, length, IfOk};
+ghost use Rattle.std.specs.Prelude.{◌<◌, ◌+◌, length, IfOk};
 ghost use Rattle.trace_index.specs.Numbers.{AreNumbered};
 
 use sp_base::MAX_THREADS;

@@ -1,5 +1,5 @@
 // An index of a small trace.
-ghost use Rattle.std.specs.Prelude.{◌<◌, ◌≡◌};
+ghost use Rattle.std.specs.Prelude.{◌<◌};
 ghost use Rattle.trace_laws.specs.Traces.{AreNamedBelow, NamesBelow};
 
 use crate::Index;
