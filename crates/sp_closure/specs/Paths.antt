@@ -20,17 +20,18 @@ IsFirstOf events t o = IsFirst (IsOf events t) 0 o
 abbrev pub IsNextOf : List Event → ℕ → Option ℕ → Type 0
 IsNextOf events p o = (t : ℕ) → IsOf events t p → IsFirst (IsOf events t) (p + 1) o
 
--- paths are seen as the trace of their index
+-- paths are seen as their trace
 abbrev pub history_in : Inside → History
-history_in x = x.index.now
+history_in x = x.trace.now
 
--- there is an entry for each place or thread, and each entry is right
+-- the index is of the trace; there is an entry for each place or thread, and each entry is right
 pub record AreLaid (x : Inside) : Type 0 where
-  pub trace : IsTrace x.index.now.events x.index.now.threads
-  pub next_size : length x.next.items ≡ length x.index.now.events
-  pub first_size : length x.first.items ≡ x.index.now.threads
-  pub forks_size : length x.forks.items ≡ x.index.now.threads
-  pub next_places : AreNext x.index.now.events Thread 0 x.next.items
-  pub first_places : AreFirst x.index.now.events Thread 0 x.first.items
-  pub fork_places : AreFirst x.index.now.events Forked 0 x.forks.items
-  pub lock_bound : AreBelow x.index.now.events Lock x.locks
+  pub same : x.index.now ≡ x.trace.now
+  pub trace : IsTrace x.trace.now.events x.trace.now.threads
+  pub next_size : length x.next.items ≡ length x.trace.now.events
+  pub first_size : length x.first.items ≡ x.trace.now.threads
+  pub forks_size : length x.forks.items ≡ x.trace.now.threads
+  pub next_places : AreNext x.trace.now.events Thread 0 x.next.items
+  pub first_places : AreFirst x.trace.now.events Thread 0 x.first.items
+  pub fork_places : AreFirst x.trace.now.events Forked 0 x.forks.items
+  pub lock_bound : AreBelow x.trace.now.events Lock x.locks

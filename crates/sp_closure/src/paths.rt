@@ -13,12 +13,13 @@ use sp_base::{MAX_EVENTS, ThreadId};
 use std::alloc::{AllocError, Global};
 use std::marker::Model;
 use trace_index::Index;
-use trace_laws::{Event, Op};
+use trace_laws::{Event, Op, Trace};
 
 /// The index of a trace, and for each thread its first place and its fork, and for each place the next one of its thread.
 /// Each question is answered at once.
 #[derive(Drop)]
 pub struct Paths<'a> {
+    trace: &'a Trace,
     index: &'a Index<'a>,
     next: Vec<Option<u32>>,
     first: Vec<Option<u32>>,
@@ -50,6 +51,7 @@ impl<'a> Paths<'a> {
         let own = link(alloc, trace, Subject::Thread, threads)?;
         let forks = link(alloc, trace, Subject::Forked, threads)?;
         Ok(Paths {
+            trace,
             index,
             next: own.next,
             first: own.first,
@@ -63,14 +65,14 @@ impl<'a> Paths<'a> {
         ensures value { result ≡ length self.now.events }
         ensures trace { IsTrace self.now.events self.now.threads }
     {
-        self.index.trace().len()
+        self.trace.len()
     }
 
     /// How many threads there are.
     pub fn threads(&self) -> u16
         ensures { result ≡ self.now.threads }
     {
-        self.index.trace().threads()
+        self.trace.threads()
     }
 
     /// A number above those of all locks.
@@ -88,7 +90,7 @@ impl<'a> Paths<'a> {
         ensures named { NamesBelow result.op self.now.threads }
         ensures few { length self.now.events ≤ MAX_EVENTS }
     {
-        self.index.trace().event(place)
+        self.trace.event(place)
     }
 
     /// The first place of a thread.
@@ -131,7 +133,7 @@ impl<'a> Paths<'a> {
         requires { place < length self.now.events }
         ensures { (r : ℕ) → (result ≡ Some r) ↔ IsReleaseOf self.now.events place r }
     {
-        match &self.index.trace().event(place).op {
+        match &self.trace.event(place).op {
             Op::Acquire(_) => self.index.release(place),
             _ => None,
         }

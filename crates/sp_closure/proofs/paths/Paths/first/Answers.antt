@@ -7,7 +7,7 @@ use Rattle.sp_closure.proofs.paths.Paths.first.Goals as goal
 
 pub returns : goal.returns
 returns c =
-    let events = c.self.inside.index.now.events in
+    let events = c.self.inside.trace.now.events in
     let thread = c.args.thread in
     let table = c.deref.ensures.value in
     let number = c.from.ensures in

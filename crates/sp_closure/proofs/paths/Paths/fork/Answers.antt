@@ -9,4 +9,4 @@ returns c =
     let thread = c.value.ensures.value in
     let read = c.entry.ensures in
     let at : slice_get c.self.inside.forks.items c.args.thread ≡ Some c.entry.result = cc in
-    rw (← c.self.view_is) (fork_tells c.self.inside.index.now.events c.self.invariant.trace.lawful c.args.thread c.entry.result (c.self.invariant.fork_places.first c.args.thread c.entry.result at))
+    rw (← c.self.view_is) (fork_tells c.self.inside.trace.now.events c.self.invariant.trace.lawful c.args.thread c.entry.result (c.self.invariant.fork_places.first c.args.thread c.entry.result at))

@@ -7,7 +7,7 @@ use Rattle.sp_closure.proofs.paths.Paths.next.Goals as goal
 
 pub returns : goal.returns
 returns c =
-    let events = c.self.inside.index.now.events in
+    let events = c.self.inside.trace.now.events in
     let place = c.args.place in
     let table = c.deref.ensures.value in
     let read = c.entry.ensures in
