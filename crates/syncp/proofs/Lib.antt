@@ -6,3 +6,4 @@ pub mod Recordings
 pub mod Gathering
 pub mod Options
 pub mod Readings
+pub mod Reporting

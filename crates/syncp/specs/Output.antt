@@ -4,8 +4,7 @@ use Rattle.std.specs.Fmt.{decimal}
 use Rattle.std.specs.List.{flat_map}
 use Rattle.std.specs.Option.{option_map_or}
 use Rattle.trace_laws.specs.Event.{Event}
-use Rattle.trace_laws.specs.declared.finding.Race.{Race}
-use Rattle.syncp.specs.declared.scan.Prediction.{Prediction}
+use Rattle.trace_laws.specs.Findings.{Found, FoundRace}
 use Rattle.syncp.specs.Predictions.{ArePredictions}
 use Rattle.trace_laws.specs.Traces.{History}
 use Rattle.std_text.specs.Refusal.{Refusal, ◌>>=◌}
@@ -41,14 +40,14 @@ abbrev pub count_text : ℕ → List ℕ
 count_text n = codes " " ++ decimal n
 
 -- the later and the earlier place of a race, and their locations
-abbrev pub places_text : List Event → Race → List ℕ
-places_text h r =
-    codes "race " ++ decimal r.later ++ codes " with " ++ decimal r.earlier ++ codes " at " ++ decimal (loc_at h r.later)
-    ++ codes " " ++ decimal (loc_at h r.earlier) ++ codes " keep"
+abbrev pub places_text : List Event → ℕ → ℕ → List ℕ
+places_text h later earlier =
+    codes "race " ++ decimal later ++ codes " with " ++ decimal earlier ++ codes " at " ++ decimal (loc_at h later)
+    ++ codes " " ++ decimal (loc_at h earlier) ++ codes " keep"
 
 -- the line of a race: its places with their locations, and its keep
-abbrev pub race_line : List Event → Prediction → List ℕ
-race_line h p = places_text h p.race ++ flat_map count_text p.keep ++ codes "\n"
+abbrev pub race_line : List Event → FoundRace → List ℕ
+race_line h r = places_text h r.later r.earlier ++ flat_map count_text r.keep ++ codes "\n"
 
 -- the last line
 abbrev pub closing_line : ℕ → List ℕ
@@ -56,8 +55,8 @@ closing_line races = codes "races " ++ decimal races ++ codes " deadlocks 0\n"
 
 -- the report of a trace, and whether it has a finding
 unfoldable pub IsReport : History → List ℕ → Bool → Type 0
-IsReport h text found = (races : List Prediction) × ArePredictions h races
-    × (text ≡ flat_map (race_line h.events) races ++ closing_line (length races)) × (found ≡ nat_lt 0 (length races))
+IsReport h text found = (all : Found) × ArePredictions h all
+    × (text ≡ flat_map (race_line h.events) all.races ++ closing_line (length all.races)) × (found ≡ nat_lt 0 (length all.races))
 
 -- the output for an input
 abbrev pub IsOutput : List ℕ → List ℕ → Bool → Type 0

@@ -7,6 +7,7 @@ ghost use Rattle.syncp.specs.Modes.{IsAccepted};
 ghost use Rattle.syncp.specs.Outcome.{Explains, IsDone};
 ghost use Rattle.syncp.specs.Output.{IsWithinLimit};
 
+use crate::find::{FindFault, find};
 use crate::mode::Mode;
 use crate::outcome::{Fault, Outcome};
 use crate::reading::read_trace;
@@ -19,18 +20,18 @@ use std::thread::Threads;
 /// answer yet. A refusal of the text comes before anything is written. `Read` and `Write` come only where the count of
 /// faults of the source or of the sink rose; after `Write`, and after want of memory, a front of the report is written.
 pub fn analyse<R: Threads + Sync, S: Source, K: Sink, G: Gate>(
-    _rt: &R,
+    rt: &R,
     alloc: Global,
-    _size: u8,
-    _workers: u8,
+    size: u8,
+    workers: u8,
     source: &mut S,
     out: &mut K,
-    _gate: &G,
+    gate: &G,
 ) -> Outcome
-    requires least_size { MIN_SIZE ≤ _size }
-    requires greatest_size { _size ≤ MAX_SIZE }
-    requires least_workers { 1 ≤ _workers }
-    requires greatest_workers { _workers ≤ MAX_WORKERS }
+    requires least_size { MIN_SIZE ≤ size }
+    requires greatest_size { size ≤ MAX_SIZE }
+    requires least_workers { 1 ≤ workers }
+    requires greatest_workers { workers ≤ MAX_WORKERS }
 
     // What was read and written explains the outcome.
     ensures outcome { Took (S.left source.old) (S.left source.new) (λ input. IsWithinLimit input ×
@@ -50,7 +51,11 @@ pub fn analyse<R: Threads + Sync, S: Source, K: Sink, G: Gate>(
         Ok(read) => read,
         Err(fault) => return Outcome::Refused(fault),
     };
-    let Ok((text, found)) = report(alloc, &trace) else {
+    let findings = match find(rt, alloc, &trace, size, workers, gate) {
+        Ok(findings) => findings,
+        Err(FindFault::OutOfMemory) => return Outcome::Refused(Fault::OutOfMemory),
+    };
+    let Ok((text, found)) = report(alloc, &trace, &findings) else {
         return Outcome::Refused(Fault::OutOfMemory);
     };
     match write_all(out, text.as_bytes()) {

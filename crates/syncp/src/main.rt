@@ -4,6 +4,7 @@
 mod analyse;
 mod command;
 mod fault_line;
+mod find;
 mod mode;
 mod outcome;
 mod reading;
@@ -13,7 +14,6 @@ mod record_tests;
 mod recorded_text;
 mod report;
 mod run;
-mod scan;
 mod status;
 #[cfg(test)]
 mod tests;

@@ -3,7 +3,7 @@ use Rattle.sp_base.specs.declared.limits.TheConstants.{MAX_VARS}
 use Rattle.trace_laws.specs.Traces.{History}
 use Rattle.trace_index.specs.Accessed.{AreVariablesBelow}
 use Rattle.race_scan.specs.Scans.{Scan}
-use Rattle.syncp.proofs.scan.predict.Goals as goal
+use Rattle.syncp.proofs.find.find.Goals as goal
 
 pub collect-requires-clause-variables : goal.collect-requires-clause-variables
-collect-requires-clause-variables c = subst (λ (h : History). AreVariablesBelow h.events MAX_VARS) (sym (ap (λ (s : Scan). s.trace) c.in_ok-scan.ensures)) c.trace.ensures.variables
+collect-requires-clause-variables g c = subst (λ (h : History). AreVariablesBelow h.events MAX_VARS) (sym (ap (λ (s : Scan). s.trace) c.in_ok-scan.ensures)) c.trace.ensures.variables
