@@ -4,9 +4,9 @@ use Rattle.std.specs.declared.option.Option.{Option}
 use Rattle.std.specs.Io.KnownBytes.{Consumes}
 use Rattle.std.proofs.KnownBytes.{Consumes-trans, Consumes-nil}
 use Rattle.sp_base.specs.declared.limits.TheConstants.{MAX_INPUT}
-use Rattle.syncp.specs.declared.mode.Mode.TheVariants.{Record}
+use Rattle.syncp.specs.Tasks.{Record}
 use Rattle.syncp.specs.declared.outcome.Fault.{Fault}
-use Rattle.syncp.specs.declared.outcome.Fault.TheVariants.{Text, Script, Read, Write, OutOfMemory}
+use Rattle.syncp.specs.declared.outcome.Fault.TheVariants.{Text, Script, NoFinding, Read, Write, OutOfMemory}
 use Rattle.syncp.specs.Outcome.{FailsToRead}
 
 -- the text is what the source gave so far
@@ -32,6 +32,7 @@ gathered_more old now new before mid next room text piece g gave few all later =
 pub fails_ended : (E Ended : Type 0) (f : Fault) (input : List ℕ) → (E → Ended) → FailsToRead Record E f input → FailsToRead Record Ended f input
 fails_ended E Ended (Text f holder) input ended fails = fails
 fails_ended E Ended (Script f) input ended fails = (fails.0, fails.1, ended fails.2)
+fails_ended E Ended NoFinding input ended fails = fails
 fails_ended E Ended Read input ended fails = fails
 fails_ended E Ended Write input ended fails = fails
 fails_ended E Ended OutOfMemory input ended fails = fails

@@ -7,3 +7,6 @@ pub mod Gathering
 pub mod Options
 pub mod Readings
 pub mod Reporting
+pub mod TextNames
+pub mod Witnessing
+pub mod Showing

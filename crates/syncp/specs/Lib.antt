@@ -8,3 +8,5 @@ pub mod Modes
 pub mod Statuses
 pub mod Words
 pub mod Parsed
+pub mod Tasks
+pub mod Witnesses

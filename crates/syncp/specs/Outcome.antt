@@ -6,22 +6,22 @@ use Rattle.std_text.specs.Framing.{Progress}
 use Rattle.std_text.specs.Refusal.{Refusal}
 use Rattle.std_text.specs.Told.{Told}
 use Rattle.syncp.specs.declared.outcome.Fault.{Fault}
-use Rattle.syncp.specs.declared.outcome.Fault.TheVariants.{Text, Script, Read, Write, OutOfMemory}
+use Rattle.syncp.specs.declared.outcome.Fault.TheVariants.{Text, Script, NoFinding, Read, Write, OutOfMemory}
 use Rattle.syncp.specs.declared.outcome.Outcome.{Outcome}
 use Rattle.syncp.specs.declared.outcome.Outcome.TheVariants.{Done, Refused}
-use Rattle.syncp.specs.declared.mode.Mode.{Mode}
-use Rattle.syncp.specs.declared.mode.Mode.TheVariants.{Predict}
 use Rattle.syncp.specs.Faults.{TellsRefusal}
 use Rattle.syncp.specs.Modes.{IsOutputOf, IsFrontOf, HasNoFaultIn, IsRefusedIn}
 use Rattle.syncp.specs.Output.{history_of, IsStd}
+use Rattle.syncp.specs.Tasks.{Task, Predict}
 
 -- a fault while the input was read
-abbrev pub FailsToRead : Mode → Type 0 → Fault → List ℕ → Type 0
-FailsToRead mode Ended (Text f holder) input = IsRefusedIn mode Ended (Text f holder) input
-FailsToRead mode Ended (Script f) input = IsRefusedIn mode Ended (Script f) input
-FailsToRead mode Ended Read input = HasNoFaultIn mode input
-FailsToRead mode Ended Write input = ⊥
-FailsToRead mode Ended OutOfMemory input = Unit {0}
+abbrev pub FailsToRead : Task → Type 0 → Fault → List ℕ → Type 0
+FailsToRead task Ended (Text f holder) input = IsRefusedIn task Ended (Text f holder) input
+FailsToRead task Ended (Script f) input = IsRefusedIn task Ended (Script f) input
+FailsToRead task Ended NoFinding input = ⊥
+FailsToRead task Ended Read input = HasNoFaultIn task input
+FailsToRead task Ended Write input = ⊥
+FailsToRead task Ended OutOfMemory input = Unit {0}
 
 -- where the text gives read, a reader went on to it, or the fault tells why the text is refused there
 abbrev pub GoesOn : Result Progress Refusal → Told → Result (Unit {0}) Fault → Type 0
@@ -38,14 +38,15 @@ abbrev pub IsReadFrom : Type 0 → Result (History × NameLists) Fault → List 
 IsReadFrom Ended (Ok read) input = (p : Progress) × IsStd input p × (read.0 ≡ history_of p) × (read.1 ≡ p.reading.names)
 IsReadFrom Ended (Err fault) input = FailsToRead Predict Ended fault input
 
--- what was read and written explains the outcome of a mode
-abbrev pub Explains : Mode → Type 0 → Outcome → List ℕ → List ℕ → Type 0
-Explains mode Ended (Done found) input text = IsOutputOf mode input text found
-Explains mode Ended (Refused (Text f holder)) input text = IsRefusedIn mode Ended (Text f holder) input × (text ≡ [])
-Explains mode Ended (Refused (Script f)) input text = IsRefusedIn mode Ended (Script f) input × (text ≡ [])
-Explains mode Ended (Refused Read) input text = HasNoFaultIn mode input × (text ≡ [])
-Explains mode Ended (Refused Write) input text = IsFrontOf mode input text × Ended
-Explains mode Ended (Refused OutOfMemory) input text = (text ≡ []) ⊎ (IsFrontOf mode input text × Ended)
+-- what was read and written explains the outcome of a task
+abbrev pub Explains : Task → Type 0 → Outcome → List ℕ → List ℕ → Type 0
+Explains task Ended (Done found) input text = IsOutputOf task input text found
+Explains task Ended (Refused (Text f holder)) input text = IsRefusedIn task Ended (Text f holder) input × (text ≡ [])
+Explains task Ended (Refused (Script f)) input text = IsRefusedIn task Ended (Script f) input × (text ≡ [])
+Explains task Ended (Refused NoFinding) input text = IsRefusedIn task Ended NoFinding input × (text ≡ [])
+Explains task Ended (Refused Read) input text = HasNoFaultIn task input × (text ≡ [])
+Explains task Ended (Refused Write) input text = IsFrontOf task input text × Ended
+Explains task Ended (Refused OutOfMemory) input text = (text ≡ []) ⊎ (IsFrontOf task input text × Ended)
 
 -- the whole output was written
 abbrev pub IsDone : Outcome → Type 0

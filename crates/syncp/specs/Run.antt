@@ -3,7 +3,6 @@ use Rattle.std.specs.Prelude.{◌≡◌, ◌⊎◌, ℕ, true, false, List, []}
 use Rattle.std.specs.declared.option.Option.{Option}
 use Rattle.std.specs.declared.option.Option.TheVariants.{None, Some}
 use Rattle.sp_base.specs.Moves.{IsFront}
-use Rattle.syncp.specs.declared.mode.Mode.{Mode}
 use Rattle.syncp.specs.declared.words.Words.{Words}
 use Rattle.syncp.specs.declared.outcome.Fault.{Fault}
 use Rattle.syncp.specs.declared.outcome.Fault.TheVariants as fault
@@ -12,34 +11,35 @@ use Rattle.syncp.specs.declared.outcome.Status.TheVariants.{Clean, Found, Usage,
 use Rattle.syncp.specs.Faults.{fault_line}
 use Rattle.syncp.specs.Modes.{IsOutputOf, IsFrontOf, HasNoFaultIn, IsRefusedIn}
 use Rattle.syncp.specs.Statuses.{status_of}
+use Rattle.syncp.specs.Tasks.{Task, task_of}
 
 -- a line of `err` was written whole, or in part where its count of faults rose
 abbrev pub TellsLine : Type 0 → Fault → List ℕ → Type 0
 TellsLine ErrFailed f line = (line ≡ fault_line f) ⊎ (IsFront line (fault_line f) × ErrFailed)
 
 -- the input is refused with a fault of the status, whose line is told, and nothing is written to `out`
-pub record Refuses (mode : Mode) (Ended ErrFailed : Type 0) (status : Status) (input text line : List ℕ) : Type 0 where
+pub record Refuses (task : Task) (Ended ErrFailed : Type 0) (status : Status) (input text line : List ℕ) : Type 0 where
   pub cause : Fault
-  pub known : IsRefusedIn mode Ended cause input
+  pub known : IsRefusedIn task Ended cause input
   pub status_is : status_of cause ≡ status
   pub nothing : text ≡ []
   pub told : TellsLine ErrFailed cause line
 
--- a status of a mode, by what was read from the source and written to `out` and `err`
-abbrev pub Means : Mode → Type 0 → Type 0 → Status → List ℕ → List ℕ → List ℕ → Type 0
-Means mode Ended ErrFailed Clean input text line = IsOutputOf mode input text false × Ended × (line ≡ [])
-Means mode Ended ErrFailed Found input text line = IsOutputOf mode input text true × Ended × (line ≡ [])
-Means mode Ended ErrFailed Usage input text line = ⊥
-Means mode Ended ErrFailed Refused input text line = Refuses mode Ended ErrFailed Refused input text line
-Means mode Ended ErrFailed Limit input text line = Refuses mode Ended ErrFailed Limit input text line
-Means mode Ended ErrFailed ReadFault input text line = HasNoFaultIn mode input × (text ≡ []) × TellsLine ErrFailed fault.Read line
-Means mode Ended ErrFailed WriteFault input text line = IsFrontOf mode input text × Ended × TellsLine ErrFailed fault.Write line
-Means mode Ended ErrFailed NoMemory input text line = ((text ≡ []) ⊎ (IsFrontOf mode input text × Ended)) × ((f : Fault) × IsFront line (fault_line f))
+-- a status of a task, by what was read from the source and written to `out` and `err`
+abbrev pub Means : Task → Type 0 → Type 0 → Status → List ℕ → List ℕ → List ℕ → Type 0
+Means task Ended ErrFailed Clean input text line = IsOutputOf task input text false × Ended × (line ≡ [])
+Means task Ended ErrFailed Found input text line = IsOutputOf task input text true × Ended × (line ≡ [])
+Means task Ended ErrFailed Usage input text line = ⊥
+Means task Ended ErrFailed Refused input text line = Refuses task Ended ErrFailed Refused input text line
+Means task Ended ErrFailed Limit input text line = Refuses task Ended ErrFailed Limit input text line
+Means task Ended ErrFailed ReadFault input text line = HasNoFaultIn task input × (text ≡ []) × TellsLine ErrFailed fault.Read line
+Means task Ended ErrFailed WriteFault input text line = IsFrontOf task input text × Ended × TellsLine ErrFailed fault.Write line
+Means task Ended ErrFailed NoMemory input text line = ((text ≡ []) ⊎ (IsFrontOf task input text × Ended)) × ((f : Fault) × IsFront line (fault_line f))
 
 -- the same by the reading of the words; where they have none nothing is read or written to `out`, and `err` may have gained a text for the user
 abbrev pub Leaves : Option Words → Type 0 → Type 0 → Status → List ℕ → List ℕ → List ℕ → Type 0
 Leaves None Ended ErrFailed status input text line = ((status ≡ Usage) ⊎ (status ≡ NoMemory)) × (input ≡ []) × (text ≡ [])
-Leaves (Some words) Ended ErrFailed status input text line = Means words.mode Ended ErrFailed status input text line
+Leaves (Some words) Ended ErrFailed status input text line = Means (task_of words) Ended ErrFailed status input text line
 
 -- the whole output was written
 abbrev pub IsDone : Status → Type 0

@@ -6,9 +6,9 @@ ghost use Rattle.sp_base.specs.Moves.{Took, Gained};
 ghost use Rattle.syncp.specs.Modes.{IsAccepted};
 ghost use Rattle.syncp.specs.Outcome.{Explains, IsDone};
 ghost use Rattle.syncp.specs.Output.{IsWithinLimit};
+ghost use Rattle.syncp.specs.Tasks.{Predict};
 
 use crate::find::{FindFault, find};
-use crate::mode::Mode;
 use crate::outcome::{Fault, Outcome};
 use crate::reading::read_trace;
 use crate::report::report;
@@ -35,7 +35,7 @@ pub fn analyse<R: Threads + Sync, S: Source, K: Sink, G: Gate>(
 
     // What was read and written explains the outcome.
     ensures outcome { Took (S.left source.old) (S.left source.new) (λ input. IsWithinLimit input ×
-        Gained (K.text out.old) (K.text out.new) (Explains Mode.Predict (IsAtEnd (S.left source.new)) result input)) }
+        Gained (K.text out.old) (K.text out.new) (Explains Predict (IsAtEnd (S.left source.new)) result input)) }
     ensures ended { IsDone result → IsAtEnd (S.left source.new) }
 
     // A fault of the outside comes only where a count of faults rose.
@@ -43,7 +43,7 @@ pub fn analyse<R: Threads + Sync, S: Source, K: Sink, G: Gate>(
     ensures write { result ≡ Outcome.Refused Fault.Write → Rose (K.faults out.old) (K.faults out.new) }
 
     // An input in the grammar is answered, unless the outside fails or memory runs out.
-    ensures complete { (all : List ℕ) → S.left source.old ≡ Some all → IsAccepted Mode.Predict all →
+    ensures complete { (all : List ℕ) → S.left source.old ≡ Some all → IsAccepted Predict all →
         ¬ Rose (S.faults source.old) (S.faults source.new) → ¬ Rose (K.faults out.old) (K.faults out.new) →
         IsDone result ⊎ (result ≡ Outcome.Refused Fault.OutOfMemory) }
 {

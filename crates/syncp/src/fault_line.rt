@@ -16,6 +16,7 @@ pub fn line_of(alloc: Global, fault: &Fault) -> Result<Vec<u8>, OutOfMemory>
     match fault {
         Fault::Text { fault, holder } => text_line(alloc, fault, holder),
         Fault::Script(fault) => script_line(alloc, fault),
+        Fault::NoFinding => owned(alloc, "fault 41 NoFinding\n"),
         Fault::Read => owned(alloc, "read fault\n"),
         Fault::Write => owned(alloc, "write fault\n"),
         Fault::OutOfMemory => owned(alloc, "no memory\n"),

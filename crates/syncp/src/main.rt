@@ -1,4 +1,4 @@
-//! Predicts data races from a trace of lock events, and records such traces from scripts.
+//! Predicts data races from a trace of lock events, shows how each is met, and records such traces from scripts.
 #![tactic(auto)]
 
 mod analyse;
@@ -14,10 +14,12 @@ mod record_tests;
 mod recorded_text;
 mod report;
 mod run;
+mod show;
 mod status;
 #[cfg(test)]
 mod tests;
 mod whole_text;
+mod witness_text;
 mod words;
 #[cfg(test)]
 mod words_tests;

@@ -9,6 +9,8 @@ pub enum Mode {
     Predict,
     /// It reads a script and writes the recorded trace.
     Record,
+    /// It reads a trace and writes the witness of a finding.
+    Witness,
 }
 
 /// The mode of a word.
@@ -18,6 +20,7 @@ pub fn named(word: &str) -> Option<Mode>
     match word {
         "predict" => Some(Mode::Predict),
         "record" => Some(Mode::Record),
+        "witness" => Some(Mode::Witness),
         _ => None,
     }
 }

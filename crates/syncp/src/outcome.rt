@@ -59,6 +59,9 @@ pub enum Fault {
     /// The script is refused.
     #[error("the script is refused")]
     Script(ScriptFault),
+    /// The trace has fewer findings.
+    #[error("no finding of that number")]
+    NoFinding,
     /// The source's count of faults rose.
     #[error("read fault")]
     Read,
@@ -88,7 +91,7 @@ pub enum Status {
     Usage,
     /// The input is refused, and passes no limit.
     Refused,
-    /// The input is refused, since it passes a limit.
+    /// The input is refused, since it passes a limit, or has fewer findings than the number that was asked for.
     Limit,
     /// The source's count of faults rose.
     ReadFault,

@@ -9,8 +9,8 @@ ghost use Rattle.syncp.specs.Modes.{IsAccepted};
 ghost use Rattle.syncp.specs.Outcome.{Explains, FailsToRead, IsDone};
 ghost use Rattle.syncp.specs.Output.{IsWithinLimit};
 ghost use Rattle.syncp.specs.Recorded.{IsRecordOf};
+ghost use Rattle.syncp.specs.Tasks.{Record};
 
-use crate::mode::Mode;
 use crate::outcome::{Fault, Outcome};
 use crate::recorded_text::recorded_text;
 use crate::whole_text::whole_text;
@@ -22,7 +22,7 @@ use std::alloc::Global;
 // The script of a text.
 fn script_of(alloc: Global, text: &[u8]) -> Result<Script, Fault>
     requires { length text.now ≤ MAX_INPUT }
-    ensures script { MatchResult result (λ script. Scripts text.now script) (λ fault. FailsToRead Mode.Record (Unit {0}) fault text.now) }
+    ensures script { MatchResult result (λ script. Scripts text.now script) (λ fault. FailsToRead Record (Unit {0}) fault text.now) }
     ensures read { IsErrOf result Fault.Read → ⊥ }
 {
     match Script::read(alloc, text) {
@@ -35,7 +35,7 @@ fn script_of(alloc: Global, text: &[u8]) -> Result<Script, Fault>
 // The text of what is recorded of a text.
 fn record_of(alloc: Global, text: &[u8]) -> Result<Vec<u8>, Fault>
     requires { length text.now ≤ MAX_INPUT }
-    ensures recorded { MatchResult result (λ recorded. IsRecordOf text.now recorded.items) (λ fault. FailsToRead Mode.Record (Unit {0}) fault text.now) }
+    ensures recorded { MatchResult result (λ recorded. IsRecordOf text.now recorded.items) (λ fault. FailsToRead Record (Unit {0}) fault text.now) }
     ensures read { IsErrOf result Fault.Read → ⊥ }
 {
     let script = script_of(alloc, text)?;
@@ -48,7 +48,7 @@ fn record_of(alloc: Global, text: &[u8]) -> Result<Vec<u8>, Fault>
 // Reads the source to its end, and answers the text of what is recorded.
 fn record_source<S: Source>(alloc: Global, source: &mut S) -> Result<Vec<u8>, Fault>
     ensures read { Took (S.left source.old) (S.left source.new) (λ input. IsWithinLimit input ×
-        MatchResult result (λ recorded. IsRecordOf input recorded.items) (λ fault. FailsToRead Mode.Record (IsAtEnd (S.left source.new)) fault input)) }
+        MatchResult result (λ recorded. IsRecordOf input recorded.items) (λ fault. FailsToRead Record (IsAtEnd (S.left source.new)) fault input)) }
     ensures ended { OnOk result (IsAtEnd (S.left source.new)) }
     ensures cause { IsErrOf result Fault.Read → Rose (S.faults source.old) (S.faults source.new) }
 {
@@ -64,7 +64,7 @@ fn record_source<S: Source>(alloc: Global, source: &mut S) -> Result<Vec<u8>, Fa
 pub fn record_alone<S: Source, K: Sink>(alloc: Global, source: &mut S, out: &mut K) -> Outcome
     // What was read and written explains the outcome.
     ensures outcome { Took (S.left source.old) (S.left source.new) (λ input. IsWithinLimit input ×
-        Gained (K.text out.old) (K.text out.new) (Explains Mode.Record (IsAtEnd (S.left source.new)) result input)) }
+        Gained (K.text out.old) (K.text out.new) (Explains Record (IsAtEnd (S.left source.new)) result input)) }
     ensures ended { IsDone result → IsAtEnd (S.left source.new) }
 
     // A fault of the outside comes only where a count of faults rose.
@@ -72,7 +72,7 @@ pub fn record_alone<S: Source, K: Sink>(alloc: Global, source: &mut S, out: &mut
     ensures write { result ≡ Outcome.Refused Fault.Write → Rose (K.faults out.old) (K.faults out.new) }
 
     // A script within the limit of an input is recorded, unless the outside fails or memory runs out.
-    ensures complete { (all : List ℕ) → S.left source.old ≡ Some all → IsAccepted Mode.Record all →
+    ensures complete { (all : List ℕ) → S.left source.old ≡ Some all → IsAccepted Record all →
         ¬ Rose (S.faults source.old) (S.faults source.new) → ¬ Rose (K.faults out.old) (K.faults out.new) →
         IsDone result ⊎ (result ≡ Outcome.Refused Fault.OutOfMemory) }
 {

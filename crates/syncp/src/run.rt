@@ -8,6 +8,7 @@ ghost use Rattle.syncp.specs.Outcome.{Explains};
 ghost use Rattle.syncp.specs.Outcome as outcome;
 ghost use Rattle.syncp.specs.Output.{IsWithinLimit};
 ghost use Rattle.syncp.specs.Run.{Means, Leaves, TellsOf, IsDone};
+ghost use Rattle.syncp.specs.Tasks.{task_of};
 ghost use Rattle.syncp.specs.Words.{IsInRange, reading_of};
 ghost use Rattle.syncp.specs.declared.words.Words.{Words as Reading};
 
@@ -16,6 +17,7 @@ use crate::fault_line::line_of;
 use crate::mode::Mode;
 use crate::outcome::{Fault, Outcome, Status};
 use crate::record_mode::record_alone;
+use crate::show::show;
 use crate::status::status_of;
 use crate::words::{Words, WordsFault, read_words};
 use sp_base::{Gate, Sink, Source, WriteFault, write_all};
@@ -24,7 +26,8 @@ use std::sync::Wait;
 use std::thread::Threads;
 
 /// Reads the source to its end and writes to `out` what the mode makes of it: `predict` reads a trace and writes the
-/// report, `record` reads a script and writes the trace that is recorded. The line of a fault goes to `err`.
+/// report, `witness` reads a trace and writes the events that lead to one of its findings, `record` reads a script and
+/// writes the trace that is recorded. The line of a fault goes to `err`.
 ///
 /// The words are the program's name, the mode and options. Where they have no reading nothing is read or written to
 /// `out`, and `err` gains a text for the user, which is that of help where help was asked for. A refusal of the input
@@ -51,9 +54,10 @@ pub fn run<R: Threads + Wait + Sync, S: Source, K: Sink, E: Sink, G: Gate>(
     ensures read { result ≡ Status.ReadFault → Rose (S.faults source.old) (S.faults source.new) }
     ensures write { result ≡ Status.WriteFault → Rose (K.faults out.old) (K.faults out.new) }
 
-    // An input in the grammar of the mode is answered, unless the outside fails or memory runs out.
+    // An input in the grammar of the mode, which has the finding that is asked for, is answered, unless the outside fails
+    // or memory runs out.
     ensures complete { (reading : Reading) → reading_of (map string_bytes words.now) ≡ Some reading →
-        (all : List ℕ) → S.left source.old ≡ Some all → IsAccepted reading.mode all →
+        (all : List ℕ) → S.left source.old ≡ Some all → IsAccepted (task_of reading) all →
         ¬ Rose (S.faults source.old) (S.faults source.new) → ¬ Rose (K.faults out.old) (K.faults out.new) →
         IsDone result ⊎ (result ≡ Status.NoMemory) }
 {
@@ -89,11 +93,11 @@ fn run_in<R: Threads + Sync, S: Source, K: Sink, E: Sink, G: Gate>(
     ensures outcome { Took (S.left source.old) (S.left source.new) (λ input. IsWithinLimit input ×
         Gained (K.text out.old) (K.text out.new) (λ text.
         Gained (E.text err.old) (E.text err.new) (λ line.
-        Means reading.mode (IsAtEnd (S.left source.new)) (Rose (E.faults err.old) (E.faults err.new)) result input text line))) }
+        Means (task_of reading) (IsAtEnd (S.left source.new)) (Rose (E.faults err.old) (E.faults err.new)) result input text line))) }
     ensures usage { result ≢ Status.Usage }
     ensures read { result ≡ Status.ReadFault → Rose (S.faults source.old) (S.faults source.new) }
     ensures write { result ≡ Status.WriteFault → Rose (K.faults out.old) (K.faults out.new) }
-    ensures complete { (all : List ℕ) → S.left source.old ≡ Some all → IsAccepted reading.mode all →
+    ensures complete { (all : List ℕ) → S.left source.old ≡ Some all → IsAccepted (task_of reading) all →
         ¬ Rose (S.faults source.old) (S.faults source.new) → ¬ Rose (K.faults out.old) (K.faults out.new) →
         IsDone result ⊎ (result ≡ Status.NoMemory) }
 {
@@ -114,17 +118,27 @@ fn outcome_of<R: Threads + Sync, S: Source, K: Sink, G: Gate>(
 ) -> Outcome
     requires { IsInRange reading }
     ensures outcome { Took (S.left source.old) (S.left source.new) (λ input. IsWithinLimit input ×
-        Gained (K.text out.old) (K.text out.new) (Explains reading.mode (IsAtEnd (S.left source.new)) result input)) }
+        Gained (K.text out.old) (K.text out.new) (Explains (task_of reading) (IsAtEnd (S.left source.new)) result input)) }
     ensures ended { outcome.IsDone result → IsAtEnd (S.left source.new) }
     ensures read { result ≡ Outcome.Refused Fault.Read → Rose (S.faults source.old) (S.faults source.new) }
     ensures write { result ≡ Outcome.Refused Fault.Write → Rose (K.faults out.old) (K.faults out.new) }
-    ensures complete { (all : List ℕ) → S.left source.old ≡ Some all → IsAccepted reading.mode all →
+    ensures complete { (all : List ℕ) → S.left source.old ≡ Some all → IsAccepted (task_of reading) all →
         ¬ Rose (S.faults source.old) (S.faults source.new) → ¬ Rose (K.faults out.old) (K.faults out.new) →
         outcome.IsDone result ⊎ (result ≡ Outcome.Refused Fault.OutOfMemory) }
 {
     match reading.mode {
         Mode::Predict => analyse(rt, alloc, reading.size, reading.workers, source, out, gate),
         Mode::Record => record_alone(alloc, source, out),
+        Mode::Witness => show(
+            rt,
+            alloc,
+            reading.size,
+            reading.workers,
+            reading.finding,
+            source,
+            out,
+            gate,
+        ),
     }
 }
 

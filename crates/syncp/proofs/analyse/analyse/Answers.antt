@@ -1,6 +1,6 @@
 use Rattle.std.proofs.Common.{ap, subst, Err}
 use Rattle.std.specs.Io.KnownBytes.{Consumes}
-use Rattle.syncp.specs.declared.mode.Mode.TheVariants.{Predict}
+use Rattle.syncp.specs.Tasks.{Predict}
 use Rattle.syncp.proofs.Ran.{reading_completes, trace_not_refused}
 use Rattle.syncp.proofs.analyse.analyse.Goals as goal
 

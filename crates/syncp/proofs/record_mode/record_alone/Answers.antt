@@ -1,6 +1,6 @@
 use Rattle.std.proofs.Common.{ap, subst, Err, []}
 use Rattle.std.specs.Io.KnownBytes.{Consumes}
-use Rattle.syncp.specs.declared.mode.Mode.TheVariants.{Record}
+use Rattle.syncp.specs.Tasks.{Record}
 use Rattle.std.proofs.KnownBytes.{Appends-nil}
 use Rattle.syncp.proofs.Ran.{nothing_written, reading_completes, script_not_refused}
 use Rattle.syncp.proofs.record_mode.record_alone.Goals as goal

@@ -1,0 +1,123 @@
+-- How many findings a trace has, and which one has a number.
+use Rattle.std.proofs.Common.{◌≡◌, ℕ, ◌+◌, ◌-◌, ◌<◌, ◌≤◌, List, [], ◌∷◌, ◌++◌, length, map, get_or, Some, refl, sym, ap, subst, ◌∙◌, arith, length-append}
+use Rattle.std.specs.Prelude.{Contains, All, AllPairs, slice_get, filter_map}
+use Rattle.std.specs.Option.{option_map}
+use Rattle.std.proofs.lemmas.Option.{slice_get_within, slice_get-map, slice_get-get_or, get_or_from_slice_get}
+use Rattle.std.proofs.lemmas.List.{length-map}
+use Rattle.trace_laws.specs.Event.{Event}
+use Rattle.trace_laws.specs.Traces.{History}
+use Rattle.trace_laws.specs.Reordering.{Rises, CanLeave}
+use Rattle.trace_laws.specs.Findings.{Found, FoundRace, Races, IsFoundRace, IsKeep, by_reorderings}
+use Rattle.trace_laws.specs.Kept.{AreKept}
+use Rattle.trace_laws.specs.Stored.{IsAt, race_of}
+use Rattle.trace_laws.specs.declared.finding.Finding.{Finding}
+use Rattle.trace_laws.specs.declared.finding.Finding.TheVariants.{Race, Deadlock}
+use Rattle.trace_laws.proofs.Places.{index_of, contains_at, within_from_thread, slice_get-append_left}
+use Rattle.trace_laws.proofs.Counting.{rising_unique}
+use Rattle.trace_laws.specs.Names.{NameLists}
+use Rattle.replayer.specs.Reorders.{FollowsKeep}
+use Rattle.std_text.specs.Writing.{trace_text}
+use Rattle.syncp.specs.Predictions.{ArePredictions, count_of_findings}
+use Rattle.syncp.specs.Witnesses.{Target, WritesWitness, IsNumbered, events_at, target_of, race_target, deadlock_target}
+use Rattle.syncp.proofs.Scanning.{no_deadlocks, race_at}
+
+-- the later places of races
+abbrev laters : List FoundRace → List ℕ
+laters races = map (λ r. r.later) races
+
+-- no race
+none : FoundRace
+none = record { later = 0; earlier = 0; keep = [] }
+
+-- the race of a later place
+later_at : (races : List FoundRace) (k x : ℕ) → slice_get (laters races) k ≡ Some x → (k < length races) × ((get_or races k none).later ≡ x)
+later_at races k x at =
+    let there = slice_get_within (laters races) k x at in
+    let size = length-map races (λ (r : FoundRace). r.later) in
+    let within : k < length races = omega arith in
+    let is : slice_get (laters races) k ≡ Some ((get_or races k none).later) = slice_get-map (λ (r : FoundRace). r.later) races k ∙ ap (option_map (λ (r : FoundRace). r.later)) (slice_get-get_or races k none within) in
+    (within, cc)
+
+-- races in the order of their later places
+laters_rise : (races : List FoundRace) → AllPairs (λ a b. a.later < b.later) races → Rises (laters races)
+laters_rise races order a b i j less at_a at_b =
+    let first = later_at races a i at_a in
+    let second = later_at races b j at_b in
+    let between = order a b none less second.0 in
+    omega (arith, first.1, second.1, between)
+
+-- a later place of one list is one of every other
+laters_are : (h : History) (one other : Found) → ArePredictions h one → ArePredictions h other → (x : ℕ) → Contains (laters one.races) x → Contains (laters other.races) x
+unfolding ArePredictions
+laters_are h one other a b x c =
+    let at = index_of (laters one.races) x c in
+    let there = later_at one.races at.0 x at.1 in
+    let race = a.races at.0 none there.0 in
+    subst (Contains (laters other.races)) there.1 (b.all_races _ _ race.order race.race)
+
+-- what is predicted from a trace has one length
+pub same_count : (h : History) (one other : Found) → ArePredictions h one → ArePredictions h other → count_of_findings one ≡ count_of_findings other
+unfolding ArePredictions
+same_count h one other a b =
+    let same : laters one.races ≡ laters other.races = rising_unique (laters one.races) (laters other.races) (laters_rise one.races a.race_order) (laters_rise other.races b.race_order) (laters_are h one other a b) (laters_are h other one b a) in
+    let races : length (laters one.races) ≡ length (laters other.races) = ap length same in
+    let first = length-map one.races (λ (r : FoundRace). r.later) in
+    let second = length-map other.races (λ (r : FoundRace). r.later) in
+    let alone = ap length (no_deadlocks h one a) in
+    let also = ap length (no_deadlocks h other b) in
+    omega arith
+
+-- its places can be left enabled together, and its keep is theirs
+pub record Stands (h : History) (target : Target) : Type 0 where
+  pub can : CanLeave h.events target.picks
+  pub keep : IsKeep h.events h.threads (by_reorderings h.events) target.picks target.keep
+
+-- so it is with what is predicted
+finding_stands : (h : History) (found : Found) (n : ℕ) (f : Finding) → ArePredictions h found → IsAt found n f → Stands h (target_of f)
+unfolding ArePredictions
+finding_stands h found n (Race r keep) are at =
+    let race = are.races n none (slice_get_within found.races n (race_of (Race r keep)) at) in
+    let same : get_or found.races n none ≡ race_of (Race r keep) = get_or_from_slice_get found.races n (race_of (Race r keep)) none at in
+    let is = subst (IsFoundRace h.events h.threads (by_reorderings h.events)) same race in
+    record { can = is.race.enabled; keep = is.keep }
+finding_stands h found n (Deadlock picks keep) are at = absurd (race_at h found n (Deadlock picks keep) are at).0
+
+-- a finding has its number, which is one more than that of the code
+numbered : (h : History) (found : Found) (number : ℕ) (f : Finding) → ArePredictions h found → 1 ≤ number → IsAt found (number - 1) f → IsNumbered found number (target_of f)
+numbered h found number (Race r keep) are least at =
+    let there = slice_get_within found.races (number - 1) (race_of (Race r keep)) at in
+    let size = length-map found.races race_target in
+    let within : number - 1 < length (map race_target found.races) = omega arith in (
+      least,
+      slice_get-append_left (map race_target found.races) (map deadlock_target found.deadlocks) (number - 1) within
+          ∙ slice_get-map race_target found.races (number - 1) ∙ ap (option_map race_target) at,
+    )
+numbered h found number (Deadlock picks keep) are least at = absurd (race_at h found (number - 1) (Deadlock picks keep) are at).0
+
+-- a keep has a count for each thread
+pub keep_size : (h : History) (found : Found) (n : ℕ) (f : Finding) (keep : List ℕ) → ArePredictions h found → IsAt found n f → keep ≡ (target_of f).keep → length keep ≡ h.threads
+keep_size h found n f keep are at same = ap length same ∙ (finding_stands h found n f are at).keep.size
+
+-- kept places are places of the trace
+pub kept_within : (events : List Event) (keep places : List ℕ) → AreKept events keep places → All (λ place. place < length events) places
+kept_within events keep places kept k d less =
+    let here = (kept.members (get_or places k d)).0 (contains_at places k (get_or places k d) (slice_get-get_or places k d less)) in
+    within_from_thread events (get_or places k d) here.thread here.is_of
+
+-- the lines of the events that the keep of a finding counts are the text of its witness
+pub writes : (names : NameLists) (h : History) (found : Found) (number : ℕ) (f : Finding) (keep places text : List ℕ) → ArePredictions h found → 1 ≤ number → IsAt found (number - 1) f → keep ≡ (target_of f).keep
+    → AreKept h.events keep places → FollowsKeep h keep places → text ≡ trace_text names (events_at h.events places) → WritesWitness names h number text
+writes names h found number f keep places text are least at same kept follows written =
+    let stands = finding_stands h found (number - 1) f are at in
+    record {
+      found = found;
+      predicted = are;
+      target = target_of f;
+      numbered = numbered h found number f are least at;
+      places = places;
+      witness = record {
+        kept = subst (λ k. AreKept h.events k places) same kept;
+        least = subst (λ k. FollowsKeep h k places) same follows (target_of f).picks stands.can stands.keep;
+      };
+      written = written;
+    }

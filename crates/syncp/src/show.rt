@@ -1,0 +1,77 @@
+// The mode `witness`.
+ghost use Rattle.std.specs.Prelude.{◌≡◌, ◌≤◌, ◌⊎◌, ℕ, List, Some};
+ghost use Rattle.std.specs.Io.KnownBytes.{IsAtEnd};
+ghost use Rattle.sp_base.specs.Causes.{Rose};
+ghost use Rattle.sp_base.specs.Moves.{Took, Gained};
+ghost use Rattle.syncp.specs.Modes.{IsAccepted};
+ghost use Rattle.syncp.specs.Outcome.{Explains, IsDone};
+ghost use Rattle.syncp.specs.Output.{IsWithinLimit};
+ghost use Rattle.syncp.specs.Tasks.{Witness};
+
+use crate::command::MAX_FINDING;
+use crate::find::{FindFault, find};
+use crate::outcome::{Fault, Outcome};
+use crate::reading::read_trace;
+use crate::witness_text::witness_text;
+use sp_base::{Gate, MAX_SIZE, MAX_WORKERS, MIN_SIZE, Sink, Source, WriteFault, write_all};
+use std::alloc::Global;
+use std::thread::Threads;
+
+/// Reads a trace and writes the witness of the finding of a number, which counts from 1 in the order of the report's
+/// lines: the events of the least sync-preserving correct reordering that leaves the finding's places enabled, in the
+/// order of the trace and as a trace text. It may be empty.
+///
+/// A refusal of the text comes before anything is written, as does `NoFinding`, which comes exactly where the whole input
+/// is a trace that has fewer findings. `Read` and `Write` come only where the count of faults of the source or of the sink
+/// rose; after `Write`, and after want of memory, a front of the witness is written.
+pub fn show<R: Threads + Sync, S: Source, K: Sink, G: Gate>(
+    rt: &R,
+    alloc: Global,
+    size: u8,
+    workers: u8,
+    finding: u32,
+    source: &mut S,
+    out: &mut K,
+    gate: &G,
+) -> Outcome
+    requires least_size { MIN_SIZE ≤ size }
+    requires greatest_size { size ≤ MAX_SIZE }
+    requires least_workers { 1 ≤ workers }
+    requires greatest_workers { workers ≤ MAX_WORKERS }
+    requires least_finding { 1 ≤ finding }
+    requires greatest_finding { finding ≤ MAX_FINDING }
+
+    // What was read and written explains the outcome.
+    ensures outcome { Took (S.left source.old) (S.left source.new) (λ input. IsWithinLimit input ×
+        Gained (K.text out.old) (K.text out.new) (Explains (Witness finding) (IsAtEnd (S.left source.new)) result input)) }
+    ensures ended { IsDone result → IsAtEnd (S.left source.new) }
+
+    // A fault of the outside comes only where a count of faults rose.
+    ensures read { result ≡ Outcome.Refused Fault.Read → Rose (S.faults source.old) (S.faults source.new) }
+    ensures write { result ≡ Outcome.Refused Fault.Write → Rose (K.faults out.old) (K.faults out.new) }
+
+    // The witness of a finding of the trace that the input says is written, unless the outside fails or memory runs out.
+    ensures complete { (all : List ℕ) → S.left source.old ≡ Some all → IsAccepted (Witness finding) all →
+        ¬ Rose (S.faults source.old) (S.faults source.new) → ¬ Rose (K.faults out.old) (K.faults out.new) →
+        IsDone result ⊎ (result ≡ Outcome.Refused Fault.OutOfMemory) }
+{
+    let (trace, names) = match read_trace(alloc, source) {
+        Ok(read) => read,
+        Err(fault) => return Outcome::Refused(fault),
+    };
+    let findings = match find(rt, alloc, &trace, size, workers, gate) {
+        Ok(findings) => findings,
+        Err(FindFault::OutOfMemory) => return Outcome::Refused(Fault::OutOfMemory),
+    };
+    if findings.len() < finding {
+        return Outcome::Refused(Fault::NoFinding);
+    }
+    let Ok(text) = witness_text(alloc, &trace, &names, &findings, finding) else {
+        return Outcome::Refused(Fault::OutOfMemory);
+    };
+    match write_all(out, &text) {
+        Ok(()) => Outcome::Done { found: true },
+        Err(WriteFault::Failed) => Outcome::Refused(Fault::Write),
+        Err(WriteFault::OutOfMemory) => Outcome::Refused(Fault::OutOfMemory),
+    }
+}
