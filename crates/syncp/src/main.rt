@@ -19,6 +19,8 @@ mod status;
 #[cfg(test)]
 mod tests;
 mod whole_text;
+#[cfg(test)]
+mod witness_tests;
 mod witness_text;
 mod words;
 #[cfg(test)]

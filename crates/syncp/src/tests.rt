@@ -66,18 +66,18 @@ fn is_left(status: Status, out: &MemSink, err: &MemSink, left: &Left) -> bool {
     status.code() == left.code && out.text() == left.out && err.text() == left.err
 }
 
-/// Whether a mode leaves this for a text in pieces, where nothing of the outside fails.
-pub(crate) fn leaves<R: Threads + Wait + Sync>(
+/// Whether words leave this for a text in pieces, where nothing of the outside fails.
+pub(crate) fn leaves_by<R: Threads + Wait + Sync>(
     rt: &R,
     alloc: Global,
-    mode: &str,
+    texts: &[&str],
     text: &[u8],
     piece: u32,
     left: &Left,
 ) -> Result<bool, AllocError>
     requires { 0 < piece }
 {
-    let words = words(alloc, &["syncp", mode])?;
+    let words = words(alloc, texts)?;
     let mut source = source(alloc, text, piece, &[])?;
     let mut out = sink(alloc, 1_000, &[])?;
     let mut err = sink(alloc, 1_000, &[])?;
@@ -91,6 +91,20 @@ pub(crate) fn leaves<R: Threads + Wait + Sync>(
         &OpenGate,
     );
     Ok(is_left(status, &out, &err, left))
+}
+
+/// Whether a mode leaves this for a text in pieces, where nothing of the outside fails.
+pub(crate) fn leaves<R: Threads + Wait + Sync>(
+    rt: &R,
+    alloc: Global,
+    mode: &str,
+    text: &[u8],
+    piece: u32,
+    left: &Left,
+) -> Result<bool, AllocError>
+    requires { 0 < piece }
+{
+    leaves_by(rt, alloc, &["syncp", mode], text, piece, left)
 }
 
 #[test]

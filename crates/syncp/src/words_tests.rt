@@ -49,7 +49,7 @@ const HELP: &str = "Predicts data races and deadlocks from a trace of lock event
 Usage: syncp [OPTIONS] <mode>
 
 Arguments:
-  <mode>  [possible values: predict, record]
+  <mode>  [possible values: predict, record, witness]
 
 Options:
       --size <size>        The greatest size of a deadlock pattern [default: 3]
@@ -62,7 +62,7 @@ Options:
 
 // What refuses `syncp explain`.
 const NO_MODE: &str = "error: invalid value 'explain' for '<mode>'
-  [possible values: predict, record]
+  [possible values: predict, record, witness]
 
 Usage: syncp [OPTIONS] <mode>
 
@@ -126,6 +126,17 @@ fn lines_are_read(rt: HostRuntime) -> Result<(), Fail> {
                 seed: 9_223_372_036_854_775_807,
                 events: 65_536,
                 finding: 69_632,
+            },
+        ),
+        (
+            "syncp witness --finding 7",
+            Words {
+                mode: Mode::Witness,
+                size: 3,
+                workers: 4,
+                seed: 1,
+                events: 4_000,
+                finding: 7,
             },
         ),
         (
