@@ -1,1 +1,2 @@
 pub mod Reorders
+pub mod Replays

@@ -6,6 +6,7 @@
 #![tactic(auto)]
 
 mod kept;
+pub mod laws;
 #[cfg(test)]
 mod tests;
 
