@@ -5,3 +5,5 @@ pub mod Along
 pub mod Replaying
 pub mod Ordering
 pub mod Reaching
+pub mod KeptSteps
+pub mod KeptRaces

@@ -1,2 +1,3 @@
 pub mod Reorders
 pub mod Replays
+pub mod Replayed

@@ -5,9 +5,13 @@
 //! Viswanathan, "Optimal Prediction of Synchronization-Preserving Races", POPL 2021).
 #![tactic(auto)]
 
+mod finding;
 mod kept;
 pub mod laws;
+mod reached;
 #[cfg(test)]
 mod tests;
 
+pub use finding::replay;
 pub use kept::reorder;
+pub use reached::Reached;
