@@ -1,4 +1,4 @@
-//! The reordering that a finding stands for.
+//! The reordering that a finding stands for, and its replay.
 //!
 //! The keep of a finding counts, for each thread, how many of its events the finding needs. These events in the order of
 //! the trace are a sync-preserving correct reordering that leaves the finding's places enabled (Mathur, Pavlogiannis and
