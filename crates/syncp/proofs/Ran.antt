@@ -14,7 +14,7 @@ use Rattle.syncp.specs.declared.outcome.Fault.{Fault}
 use Rattle.syncp.specs.declared.outcome.Fault.TheVariants as fault
 use Rattle.syncp.specs.declared.outcome.Outcome.TheVariants as outcome
 use Rattle.syncp.specs.declared.outcome.Status.{Status}
-use Rattle.syncp.specs.declared.outcome.Status.TheVariants.{Usage, NoMemory}
+use Rattle.syncp.specs.declared.outcome.Status.TheVariants.{NoMemory}
 use Rattle.syncp.specs.Output.{IsStd, IsKnownFault, history_of}
 use Rattle.syncp.specs.Witnesses.{LacksFinding}
 use Rattle.syncp.proofs.Witnessing.{same_count}

@@ -19,7 +19,7 @@ use Rattle.std_text.specs.Fields.{Parts, line_says}
 use Rattle.std_text.specs.Law.{law_fault}
 use Rattle.std_text.specs.Meaning.{Reading, with_thread, with_operand, with_names, op_on, event_of, fits, too_many, refused, skipped, read_lawful, read_parts, read_said}
 use Rattle.std_text.specs.declared.fault.StdKind.TheVariants.{TooManyEvents, TooManyThreads, LineTooLong, InputTooLong}
-use Rattle.std_text.specs.Framing.{Progress, begun, start, cut_after, content, read_line, read_lines, after, closed}
+use Rattle.std_text.specs.Framing.{Progress, start, cut_after, content, read_line, read_lines, after, closed}
 use Rattle.std_text.specs.Refusal.{Refusal, ◌>>=◌}
 use Rattle.std_text.specs.Writing.{IsNamed, IsOperandNamed}
 use Rattle.syncp.specs.Output.{IsStd}

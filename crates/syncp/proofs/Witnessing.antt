@@ -1,13 +1,13 @@
 -- How many findings a trace has, and which one has a number.
-use Rattle.std.proofs.Common.{◌≡◌, ℕ, ◌+◌, ◌-◌, ◌<◌, ◌≤◌, List, [], ◌∷◌, ◌++◌, length, map, get_or, Some, refl, sym, ap, subst, ◌∙◌, arith, length-append}
-use Rattle.std.specs.Prelude.{Contains, All, AllPairs, slice_get, filter_map}
+use Rattle.std.proofs.Common.{◌≡◌, ℕ, ◌-◌, ◌<◌, ◌≤◌, List, [], length, map, get_or, Some, ap, subst, ◌∙◌, arith}
+use Rattle.std.specs.Prelude.{Contains, All, AllPairs, slice_get}
 use Rattle.std.specs.Option.{option_map}
 use Rattle.std.proofs.lemmas.Option.{slice_get_within, slice_get-map, slice_get-get_or, get_or_from_slice_get}
 use Rattle.std.proofs.lemmas.List.{length-map}
 use Rattle.trace_laws.specs.Event.{Event}
 use Rattle.trace_laws.specs.Traces.{History}
 use Rattle.trace_laws.specs.Reordering.{Rises, CanLeave}
-use Rattle.trace_laws.specs.Findings.{Found, FoundRace, Races, IsFoundRace, IsKeep, by_reorderings}
+use Rattle.trace_laws.specs.Findings.{Found, FoundRace, IsFoundRace, IsKeep, by_reorderings}
 use Rattle.trace_laws.specs.Kept.{AreKept}
 use Rattle.trace_laws.specs.Stored.{IsAt, race_of}
 use Rattle.trace_laws.specs.declared.finding.Finding.{Finding}

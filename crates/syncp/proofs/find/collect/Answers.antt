@@ -1,4 +1,4 @@
-use Rattle.std.proofs.Common.{◌≡◌, ◌+◌, List, [], ◌∷◌, length, ap, subst, ◌∙◌, arith, length-append}
+use Rattle.std.proofs.Common.{◌≡◌, ◌+◌, [], ◌∷◌, length, ap, subst, ◌∙◌, arith, length-append}
 use Rattle.trace_laws.specs.Findings.{FoundRace}
 use Rattle.race_scan.specs.Scans.{Scan, Gives, found_race}
 use Rattle.syncp.proofs.Scanning.{predicted_one, predicted_all, found_within}
