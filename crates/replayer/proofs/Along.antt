@@ -1,5 +1,5 @@
 -- Reorderings by what stands before each place, and what the places of a list leave.
-use Rattle.std.proofs.Common.{◌≡◌, ℕ, zero, suc, ◌<◌, Bool, true, false, not, cond, ◌&&◌, ◌⊎◌, List, [], ◌∷◌, ◌++◌, nat_eq, slice_get, Option, Some, None, fold, Contains, refl, ap, ◌∙◌, arith}
+use Rattle.std.proofs.Common.{◌≡◌, ℕ, zero, suc, ◌<◌, Bool, true, false, not, cond, ◌&&◌, ◌⊎◌, List, [], ◌∷◌, ◌++◌, nat_eq, slice_get, Option, Some, None, fold, Contains, refl, ap, ◌∙◌}
 use Rattle.std.proofs.lemmas.List.Sums.{fold_push}
 use Rattle.std.proofs.lemmas.List.Elements.{filter_map-append}
 use Rattle.trace_laws.specs.declared.event.Op.{Op}
@@ -7,7 +7,7 @@ use Rattle.trace_laws.specs.declared.event.Op.TheVariants.{Read, Write, Acquire,
 use Rattle.trace_laws.specs.Event.{Event}
 use Rattle.script_machine.specs.declared.instruction.Instruction.{Instruction}
 use Rattle.script_machine.specs.declared.instruction.Instruction.TheVariants.{Do}
-use Rattle.script_machine.specs.Machine.{Script, State, Taken, Step, put, value_after, forked_after, brings, op_of, events}
+use Rattle.script_machine.specs.Machine.{Script, State, Taken, Step, value_after, forked_after, brings, op_of, events}
 use Rattle.script_machine.proofs.Steps.{put_same, event_at, holder_after}
 use Rattle.replayer.specs.Replays.{along}
 

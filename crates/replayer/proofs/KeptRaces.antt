@@ -1,14 +1,14 @@
 -- The replay of a race along its kept events.
-use Rattle.std.proofs.Common.{◌≡◌, ◌<◌, ℕ, zero, suc, List, [], ◌∷◌, All, length, Some, slice_get, refl, sym, ap, ◌∙◌, subst, arith}
+use Rattle.std.proofs.Common.{◌≡◌, ◌<◌, ℕ, zero, suc, List, [], ◌∷◌, All, length, Some, slice_get, sym, ◌∙◌, subst, arith}
 use Rattle.trace_laws.specs.Event.{Event}
 use Rattle.trace_laws.specs.Traces.{History}
 use Rattle.trace_laws.specs.Kept.{AreKept}
 use Rattle.trace_laws.specs.Findings.{FoundRace}
 use Rattle.trace_laws.specs.Reordering.{Conflict, LeavesEnabled}
-use Rattle.script_machine.specs.Machine.{Script, State, NextCall, CanStep, IsRunning, events, start}
+use Rattle.script_machine.specs.Machine.{Script, State, NextCall, CanStep, IsRunning, start}
 use Rattle.script_machine.specs.Held.{Held, meaning}
 use Rattle.script_machine.proofs.Sizes.{thread_inside, none_at_start}
-use Rattle.replayer.specs.Reorders.{FollowsKeep, IsLeastReordering}
+use Rattle.replayer.specs.Reorders.{FollowsKeep}
 use Rattle.replayer.specs.Replays.{along, Ready, ReplaysTo, RaceReached}
 use Rattle.replayer.specs.Replayed.{IsRaceOf, IsRunningIn, IsReplayOf, ReachesRace}
 use Rattle.replayer.proofs.KeptSteps.{run_inside}

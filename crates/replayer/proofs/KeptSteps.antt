@@ -1,9 +1,9 @@
 -- The steps of a machine along a correct reordering.
-use Rattle.std.proofs.Common.{◌≡◌, ◌<◌, ◌≤◌, ◌+◌, ℕ, zero, suc, List, [], ◌∷◌, ◌++◌, take, length, map, Some, None, Option, IfSome, IfNone, slice_get, Contains, refl, sym, ap, ◌∙◌, subst, arith, add-one}
+use Rattle.std.proofs.Common.{◌≡◌, ◌<◌, ◌+◌, ℕ, zero, suc, List, [], ◌∷◌, ◌++◌, take, length, Some, None, Option, IfSome, IfNone, slice_get, refl, sym, ap, ◌∙◌, subst, add-one}
 use Rattle.std.proofs.lemmas.List.Elements.{filter_map-append}
 use Rattle.trace_laws.specs.Event.{Event}
 use Rattle.trace_laws.specs.Reordering.{CorrectReordering}
-use Rattle.script_machine.specs.Machine.{Script, State, Taken, Step, StepOf, Run, LegalRun, CanStep, events, start}
+use Rattle.script_machine.specs.Machine.{Script, State, Taken, Step, StepOf, Run, LegalRun, CanStep, start}
 use Rattle.script_machine.specs.Held.{Held, meaning}
 use Rattle.script_machine.proofs.Steps.{taken_at}
 use Rattle.script_machine.proofs.Sizes.{thread_inside, none_after, none_at_start, NoneOutside}

@@ -7,3 +7,4 @@ pub mod Ordering
 pub mod Reaching
 pub mod KeptSteps
 pub mod KeptRaces
+pub mod ThreeWrites

@@ -1,9 +1,8 @@
 -- What a reordering of a run reaches.
-use Rattle.std.proofs.Common.{◌≡◌, ◌<◌, ℕ, zero, suc, ◌⊎◌, inl, inr, List, [], ◌∷◌, Some, None, slice_get, Contains, refl, sym, ap, ◌∙◌, subst, arith}
+use Rattle.std.proofs.Common.{◌≡◌, ℕ, ◌⊎◌, inl, inr, List, [], ◌∷◌, Some, slice_get, Contains, refl, sym, ap, ◌∙◌, subst, arith}
 use Rattle.trace_laws.specs.declared.event.Op.{Op}
 use Rattle.trace_laws.specs.declared.event.Op.TheVariants.{Read, Write, Acquire, Release, Fork, Join}
 use Rattle.trace_laws.specs.Event.{Event}
-use Rattle.trace_laws.specs.Trace.{thread_at, op_at}
 use Rattle.trace_laws.specs.Reordering.{CorrectReordering, Enabled, Accesses, Conflict, LeavesEnabled}
 use Rattle.script_machine.specs.Machine.{Script, State, Taken, Step, Run, Can, CanStep, NextCall, after, brings, events, start, is_forked}
 use Rattle.script_machine.proofs.Steps.{get_in, thread_other, forked_step}
@@ -83,11 +82,12 @@ replay_law script run end places runs correct =
     let (s, along_run, next) = replay_along script run end places runs (bridge (events run) places correct) in
     (s, along_run)
 
--- the first and the second of two picks
-first_pick : (p q : ℕ) → Contains (p ∷ q ∷ []) p
+-- the first of two picks
+pub first_pick : (p q : ℕ) → Contains (p ∷ q ∷ []) p
 first_pick p q = (0, omega arith, refl)
 
-second_pick : (p q : ℕ) → Contains (p ∷ q ∷ []) q
+-- and the second
+pub second_pick : (p q : ℕ) → Contains (p ∷ q ∷ []) q
 second_pick p q = (1, omega arith, refl)
 
 -- after one that leaves two conflicting places enabled, their race is reached

@@ -10,6 +10,8 @@ mod kept;
 pub mod laws;
 mod reached;
 #[cfg(test)]
+mod replay_tests;
+#[cfg(test)]
 mod tests;
 
 pub use finding::replay;

@@ -1,10 +1,10 @@
-use Rattle.std.proofs.Common.{◌≡◌, ◌<◌, ℕ, length, Contains, slice_get, slice_index_or, Some, sym, ap, ◌∙◌, subst, arith}
+use Rattle.std.proofs.Common.{◌≡◌, slice_get, slice_index_or, Some, sym, ap, subst, arith}
 use Rattle.std.proofs.lemmas.Option.{slice_get-get_or}
 use Rattle.std.proofs.lemmas.List.Elements.{Contains-get_or}
 use Rattle.std.proofs.lemmas.List.{take_all}
 use Rattle.trace_laws.specs.Event.{Event}
 use Rattle.script_machine.specs.Machine.{LegalRun}
-use Rattle.script_machine.specs.Held.{Held, meaning}
+use Rattle.script_machine.specs.Held.{meaning}
 use Rattle.replayer.proofs.KeptSteps.{IsAlong, is_thread, moves_on, at_start}
 use Rattle.replayer.proofs.finding.machine_along.Goals as goal
 

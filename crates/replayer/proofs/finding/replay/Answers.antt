@@ -1,13 +1,11 @@
-use Rattle.std.proofs.Common.{◌≡◌, ◌<◌, ℕ, List, [], ◌∷◌, All, length, Some, slice_get, sym, ap, ◌∙◌, subst}
+use Rattle.std.proofs.Common.{◌≡◌, [], ◌∷◌, All, sym, ap, ◌∙◌, subst}
 use Rattle.std.proofs.lemmas.Option.{slice_get_within}
 use Rattle.trace_laws.specs.Event.{Event}
 use Rattle.trace_laws.specs.Stored.{race_of}
 use Rattle.trace_laws.specs.Findings.{FoundRace}
-use Rattle.trace_laws.specs.Traces.{History}
-use Rattle.trace_laws.specs.Reordering.{CorrectReordering}
 use Rattle.script_machine.specs.Held.{Held, meaning}
 use Rattle.replayer.specs.Reorders.{FollowsKeep}
-use Rattle.replayer.specs.Replayed.{IsRaceOf, IsRunningIn, IsReplayOf, ReachesRace}
+use Rattle.replayer.specs.Replayed.{IsRaceOf, IsRunningIn, IsReplayOf}
 use Rattle.replayer.proofs.KeptRaces.{kept_leave, machine_reaches, threads_are, is_replay, both_run}
 use Rattle.replayer.proofs.finding.replay.Goals as goal
 
