@@ -56,6 +56,7 @@ module _ (script : Script) (trace : List Event) (places : List ℕ) (correct : C
     next : State
     step : Step script s taken next
 
+  -- there is one
   next_step : (s : State) (r : ReplaysTo script trace (take i places) s) → NextStep s r.run
   next_step s r =
       let correct_run = subst (λ es. CorrectReordering es places) r.same correct in

@@ -24,29 +24,36 @@ or_of [] k d x h = absurd (cc)
 or_of (y ∷ ys) zero d x h = cc
 or_of (y ∷ ys) (suc k) d x h = or_of ys k d x h
 
+-- the index of an element
 pub index_of : (xs : List ℕ) (x : ℕ) → Contains xs x → (k : ℕ) × (k < length xs) × (slice_get xs k ≡ Some x)
 index_of xs x (k, less, same) = (k, less, slice_of xs k x less ∙ ap Some same)
 
+-- an element at an index is in the list
 pub contains_of : (xs : List ℕ) (k x : ℕ) → slice_get xs k ≡ Some x → Contains xs x
 contains_of xs k x h = (k, in_range xs k x h, or_of xs k x x h)
 
+-- an element of the front of a joined list
 slice_left : {X : Type 0} (xs ys : List X) (k : ℕ) → k < length xs → slice_get (xs ++ ys) k ≡ slice_get xs k
 slice_left [] ys k h = absurd (omega arith)
 slice_left (x ∷ xs) ys zero h = refl
 slice_left (x ∷ xs) ys (suc k) h = slice_left xs ys k (omega arith)
 
+-- the first element after the front
 slice_mid : {X : Type 0} (xs : List X) (x : X) (ys : List X) → slice_get (xs ++ x ∷ ys) (length xs) ≡ Some x
 slice_mid [] x ys = refl
 slice_mid (y ∷ xs) x ys = slice_mid xs x ys
 
+-- one more element of a front
 pub take_snoc : {X : Type 0} (xs : List X) (n : ℕ) (x : X) → slice_get xs n ≡ Some x → take (suc n) xs ≡ take n xs ++ x ∷ []
 take_snoc [] n x h = absurd (cc)
 take_snoc (y ∷ ys) zero x h = let same : y ≡ x = cc in ap (λ z. z ∷ []) same
 take_snoc (y ∷ ys) (suc n) x h = ap (λ zs. y ∷ zs) (take_snoc ys n x h)
 
+-- the thread of the event at a place
 pub thread_here : (trace : List Event) (i : ℕ) (e : Event) → slice_get trace i ≡ Some e → thread_at trace i ≡ Some e.thread
 thread_here trace i e h = ap (λ o. option_map (λ x. x.thread) o) h
 
+-- the operation of the event at a place
 pub op_here : (trace : List Event) (i : ℕ) (e : Event) → slice_get trace i ≡ Some e → op_at trace i ≡ Some e.op
 op_here trace i e h = ap (λ o. option_map (λ x. x.op) o) h
 
@@ -65,6 +72,7 @@ data LastOf (trace : List Event) (places : List ℕ) (x n : ℕ) : Option ℕ �
   somewhere : (k w : ℕ) → k < n → slice_get places k ≡ Some w → Writes trace w x
       → ((m v : ℕ) → k < m → m < n → slice_get places m ≡ Some v → Writes trace v x → ⊥) → LastOf trace places x n (Some w)
 
+-- a place that is found to write does so
 writes_of : (trace : List Event) (v x : ℕ) → is_write x (slice_get trace v) ≡ true → Writes trace v x
 writes_of trace v x h = go (slice_get trace v) refl h
   where
@@ -80,6 +88,7 @@ writes_of trace v x h = go (slice_get trace v) refl h
     go None e h = absurd (cc)
     go (Some event) e h = op_here trace v event e ∙ ap Some (by event.op h)
 
+-- a place that writes is found to
 is_write_of : (trace : List Event) (v x : ℕ) → Writes trace v x → is_write x (slice_get trace v) ≡ true
 is_write_of trace v x h = go (slice_get trace v) refl h
   where
@@ -87,6 +96,7 @@ is_write_of trace v x h = go (slice_get trace v) refl h
     go None e h = absurd (cc)
     go (Some event) e h = let same : event.op ≡ Write x = cc in rw same (eq-eqb x x refl)
 
+-- the last write is the one that the fold finds
 last_of : (trace : List Event) (places : List ℕ) (x n : ℕ) → n ≤ length places → LastOf trace places x n (last_write trace x (take n places))
 last_of trace places x zero h = nowhere (λ k v less here writes. omega arith)
 last_of trace places x (suc n) h =
@@ -107,6 +117,7 @@ last_of trace places x (suc n) h =
     ])
 
 module _ (trace : List Event) (places : List ℕ) (correct : CorrectReordering trace places) where
+  -- the order of two indices is the order of their places
   earlier_at : (a b i j : ℕ) → a < b → slice_get places a ≡ Some i → slice_get places b ≡ Some j → Earlier places i j
   earlier_at a b i j less at_i at_j = record { first = a; second = b; rises = less; at_first = at_i; at_second = at_j }
 
@@ -114,6 +125,7 @@ module _ (trace : List Event) (places : List ℕ) (correct : CorrectReordering t
   event_there : (n q : ℕ) → slice_get places n ≡ Some q → (e : Event) × (slice_get trace q ≡ Some e)
   event_there n q at_q = get_in trace q (correct.within q (contains_of places n q at_q))
 
+  -- who holds a lock after one more place
   held_next : (n q : ℕ) (e : Event) (l : ℕ) → slice_get places n ≡ Some q → slice_get trace q ≡ Some e
       → holder l (along trace (take (suc n) places)) ≡ holder_after l (holder l (along trace (take n places))) e.thread e.op
   held_next n q e l at_q here = ap (λ xs. holder l (along trace xs)) (take_snoc places n q at_q) ∙ holder_push trace (take n places) q e l here
@@ -127,6 +139,7 @@ module _ (trace : List Event) (places : List ℕ) (correct : CorrectReordering t
     acquired : Acquires trace since u l
     kept : (m r : ℕ) → index < m → m < n → slice_get places m ≡ Some r → Releases trace r u l → ⊥
 
+  -- the holder keeps the lock
   keeps_of : (n l u : ℕ) → n ≤ length places → holder l (along trace (take n places)) ≡ Some u → Keeps n l u
   keeps_of zero l u h is = absurd (cc)
   keeps_of (suc n) l u h is =
@@ -242,6 +255,7 @@ module _ (trace : List Event) (places : List ℕ) (correct : CorrectReordering t
           ]
           stays k q at_q e here less strong other is law before = before
 
+  -- the law of locks along the order is that of the holder
   law_of : (n p : ℕ) (e : Event) → slice_get places n ≡ Some p → slice_get trace p ≡ Some e → (op : Op) → OrderLaw trace (Earlier places) p e.thread op → LockLaw (along trace (take n places)) e.thread op
   law_of n p e at_p here (Acquire l) law = go (holder l (along trace (take n places))) refl
     where
@@ -276,6 +290,7 @@ upto_length : (n : ℕ) → length (upto n) ≡ n
 upto_length zero = refl
 upto_length (suc n) = let ih = upto_length n in omega (arith, length-append (upto n) (n ∷ []))
 
+-- each of them is its own index
 upto_at : (n k : ℕ) → k < n → slice_get (upto n) k ≡ Some k
 upto_at zero k h = absurd (omega arith)
 upto_at (suc n) k h = elim (cases_eq k n) [

@@ -16,10 +16,12 @@ state_at script [] s s' r n = s
 state_at script (x ∷ xs) s s' r zero = s
 state_at script (x ∷ xs) s s' r (suc n) = state_at script xs r.0 s' r.2 n
 
+-- it begins at the start of the run
 pub state_at-zero : (script : Script) (run : List Taken) (s s' : State) (r : Run script s run s') → state_at script run s s' r 0 ≡ s
 state_at-zero script [] s s' r = refl
 state_at-zero script (x ∷ xs) s s' r = refl
 
+-- each element of the run is the step there
 pub state_at-step : (script : Script) (run : List Taken) (s s' : State) (r : Run script s run s') (p : ℕ) (taken : Taken)
     → slice_get run p ≡ Some taken → Step script (state_at script run s s' r p) taken (state_at script run s s' r (suc p))
 state_at-step script [] s s' r p taken h = absurd (cc)
@@ -87,6 +89,7 @@ module _ (script : Script) (run : List Taken) (at : ℕ → State) (first : at 0
       let other : taken.event.thread ≡ u → ⊥ = λ mine. (let full = rw mine at st.next in cc) in
       rw add-suc (rw (thread_other script _ _ taken st u other) still)
 
+  -- a thread at its end has no event from there on
   pub quiet_after_end : (u n q : ℕ) (e : Event) → ((at n).thread u).left ≡ [] → n ≤ q → slice_get (events run) q ≡ Some e → e.thread ≡ u → ⊥
   quiet_after_end u n q e none low is mine =
       let (taken, here, same) = taken_at run q e is in
@@ -241,6 +244,7 @@ module _ (script : Script) (run : List Taken) (at : ℕ → State) (first : at 0
       pub one_more : (s' : State) × Step script s taken s' × Kept run at (done ++ p ∷ []) s'
       one_more = (next_state, step_too, kept_next)
 
+  -- the empty list has no place
   not-inside : (q : ℕ) → Contains {X = ℕ} [] q → ⊥
   not-inside q h = omega arith
 
