@@ -1,36 +1,23 @@
 -- A correct reordering, stated by the order of its list, is one stated by what stands before each of its places.
 use Rattle.std.specs.Option.{option_map}
-use Rattle.std.proofs.Common.{◌≡◌, ℕ, zero, suc, ◌+◌, ◌-◌, ◌<◌, ◌≤◌, Bool, true, false, cond, inl, inr, List, [], ◌∷◌, ◌++◌, nat_eq, slice_get, length, take, get_or, Contains, Option, Some, None, refl, sym, ap, ◌∙◌, subst, eqb-true, eq-eqb, take_at, length-append, arith, add-zero, add-suc}
+use Rattle.std.proofs.Common.{◌≡◌, ℕ, zero, suc, ◌+◌, ◌-◌, ◌<◌, ◌≤◌, Bool, true, false, cond, inl, inr, List, [], ◌∷◌, ◌++◌, nat_eq, slice_get, length, take, Contains, Option, Some, None, refl, sym, ap, ◌∙◌, subst, eqb-true, eq-eqb, take_at, length-append, arith, add-zero, add-suc}
 use Rattle.std.proofs.lemmas.Bool.{cases_Bool, cases_eq, cases_order}
+use Rattle.std.proofs.lemmas.Option.{slice_get-get_or}
 use Rattle.std.proofs.lemmas.List.{take_all}
 use Rattle.std.proofs.lemmas.List.Sums.{fold_push}
 use Rattle.trace_laws.specs.declared.event.Op.{Op}
 use Rattle.trace_laws.specs.declared.event.Op.TheVariants.{Read, Write, Acquire, Release, Fork, Join}
 use Rattle.trace_laws.specs.Event.{Event}
-use Rattle.trace_laws.specs.Trace.{thread_at, op_at, Reads, Writes, Acquires, Releases, Holds, IsWriter, LockLaw as OrderLaw, Before as OrderBefore, same_thread, fork_event, event_join, fork_join}
+use Rattle.trace_laws.specs.Trace.{Reads, Writes, Acquires, Releases, Holds, IsWriter, LockLaw as OrderLaw, Before as OrderBefore, same_thread, fork_event, event_join, fork_join}
 use Rattle.trace_laws.specs.Reordering.{Earlier, CorrectReordering}
+use Rattle.trace_laws.proofs.Places.{contains_at, thread_from_event, op_from_event}
 use Rattle.script_machine.proofs.Steps.{get_in, in_range, holder_after}
 use Rattle.replayer.specs.Replays.{along}
 use Rattle.replayer.proofs.Along.{upto, Before, holder, writes_by, is_write, last_write, LockLaw, Reordering, holder_push}
 
--- elements by index
-slice_of : {X : Type 0} (xs : List X) (k : ℕ) (d : X) → k < length xs → slice_get xs k ≡ Some (get_or xs k d)
-slice_of [] k d h = absurd (omega arith)
-slice_of (x ∷ xs) zero d h = refl
-slice_of (x ∷ xs) (suc k) d h = slice_of xs k d (omega arith)
-
-or_of : {X : Type 0} (xs : List X) (k : ℕ) (d x : X) → slice_get xs k ≡ Some x → get_or xs k d ≡ x
-or_of [] k d x h = absurd (cc)
-or_of (y ∷ ys) zero d x h = cc
-or_of (y ∷ ys) (suc k) d x h = or_of ys k d x h
-
 -- the index of an element
 pub index_of : (xs : List ℕ) (x : ℕ) → Contains xs x → (k : ℕ) × (k < length xs) × (slice_get xs k ≡ Some x)
-index_of xs x (k, less, same) = (k, less, slice_of xs k x less ∙ ap Some same)
-
--- an element at an index is in the list
-pub contains_of : (xs : List ℕ) (k x : ℕ) → slice_get xs k ≡ Some x → Contains xs x
-contains_of xs k x h = (k, in_range xs k x h, or_of xs k x x h)
+index_of xs x (k, less, same) = (k, less, slice_get-get_or xs k x less ∙ ap Some same)
 
 -- an element of the front of a joined list
 slice_left : {X : Type 0} (xs ys : List X) (k : ℕ) → k < length xs → slice_get (xs ++ ys) k ≡ slice_get xs k
@@ -49,21 +36,13 @@ take_snoc [] n x h = absurd (cc)
 take_snoc (y ∷ ys) zero x h = let same : y ≡ x = cc in ap (λ z. z ∷ []) same
 take_snoc (y ∷ ys) (suc n) x h = ap (λ zs. y ∷ zs) (take_snoc ys n x h)
 
--- the thread of the event at a place
-pub thread_here : (trace : List Event) (i : ℕ) (e : Event) → slice_get trace i ≡ Some e → thread_at trace i ≡ Some e.thread
-thread_here trace i e h = ap (λ o. option_map (λ x. x.thread) o) h
-
--- the operation of the event at a place
-pub op_here : (trace : List Event) (i : ℕ) (e : Event) → slice_get trace i ≡ Some e → op_at trace i ≡ Some e.op
-op_here trace i e h = ap (λ o. option_map (λ x. x.op) o) h
-
 -- program order by events is program order
 pub before_too : (trace : List Event) (i j : ℕ) → Before trace i j → OrderBefore trace i j
 before_too trace i j b = elim b.order [
-  | inl same ↦ same_thread b.first.thread b.less (thread_here trace i b.first b.at_first) (thread_here trace j b.second b.at_second ∙ ap Some (sym same))
-  | inr (inl forks) ↦ fork_event b.second.thread b.less (op_here trace i b.first b.at_first ∙ ap Some forks) (thread_here trace j b.second b.at_second)
-  | inr (inr (inl joins)) ↦ event_join b.first.thread b.less (thread_here trace i b.first b.at_first) (op_here trace j b.second b.at_second ∙ ap Some joins)
-  | inr (inr (inr both)) ↦ fork_join both.0 b.less (op_here trace i b.first b.at_first ∙ ap Some both.1) (op_here trace j b.second b.at_second ∙ ap Some both.2)
+  | inl same ↦ same_thread b.first.thread b.less (thread_from_event trace i b.first b.at_first) (thread_from_event trace j b.second b.at_second ∙ ap Some (sym same))
+  | inr (inl forks) ↦ fork_event b.second.thread b.less (op_from_event trace i b.first b.at_first ∙ ap Some forks) (thread_from_event trace j b.second b.at_second)
+  | inr (inr (inl joins)) ↦ event_join b.first.thread b.less (thread_from_event trace i b.first b.at_first) (op_from_event trace j b.second b.at_second ∙ ap Some joins)
+  | inr (inr (inr both)) ↦ fork_join both.0 b.less (op_from_event trace i b.first b.at_first ∙ ap Some both.1) (op_from_event trace j b.second b.at_second ∙ ap Some both.2)
 ]
 
 -- the last write of x among the first n places
@@ -86,7 +65,7 @@ writes_of trace v x h = go (slice_get trace v) refl h
 
     go : (o : Option Event) → slice_get trace v ≡ o → is_write x o ≡ true → Writes trace v x
     go None e h = absurd (cc)
-    go (Some event) e h = op_here trace v event e ∙ ap Some (by event.op h)
+    go (Some event) e h = op_from_event trace v event e ∙ ap Some (by event.op h)
 
 -- a place that writes is found to
 is_write_of : (trace : List Event) (v x : ℕ) → Writes trace v x → is_write x (slice_get trace v) ≡ true
@@ -123,7 +102,7 @@ module _ (trace : List Event) (places : List ℕ) (correct : CorrectReordering t
 
   -- the event at an index of the list
   event_there : (n q : ℕ) → slice_get places n ≡ Some q → (e : Event) × (slice_get trace q ≡ Some e)
-  event_there n q at_q = get_in trace q (correct.within q (contains_of places n q at_q))
+  event_there n q at_q = get_in trace q (correct.within q (contains_at places n q at_q))
 
   -- who holds a lock after one more place
   held_next : (n q : ℕ) (e : Event) (l : ℕ) → slice_get places n ≡ Some q → slice_get trace q ≡ Some e
@@ -155,7 +134,7 @@ module _ (trace : List Event) (places : List ℕ) (correct : CorrectReordering t
         at_since = k.at_since;
         acquired = k.acquired;
         kept = λ m r low high at_r rel. elim (cases_eq m n) [
-          | inl same ↦ (let at_n = rw same at at_r in let both : r ≡ q = cc in let o = rw both at rel.op in let o' = op_here trace q e here in other cc)
+          | inl same ↦ (let at_n = rw same at at_r in let both : r ≡ q = cc in let o = rw both at rel.op in let o' = op_from_event trace q e here in other cc)
           | inr ne ↦ k.kept m r low (omega arith) at_r rel
         ];
       })
@@ -172,7 +151,7 @@ module _ (trace : List Event) (places : List ℕ) (correct : CorrectReordering t
               since = q;
               less = omega arith;
               at_since = at_q;
-              acquired = record { thread = thread_here trace q e here ∙ ap Some own; op = op_here trace q e here ∙ ap Some (is ∙ ap Acquire (eqb-true m l t)) };
+              acquired = record { thread = thread_from_event trace q e here ∙ ap Some own; op = op_from_event trace q e here ∙ ap Some (is ∙ ap Acquire (eqb-true m l t)) };
               kept = λ m r low high at_r rel. omega arith;
             })
         | inr t ↦ later q at_q e here (λ rel. (let no' : Acquire m ≡ Release l = sym is ∙ rel in cc)) (again (rw t at now))
@@ -211,8 +190,8 @@ module _ (trace : List Event) (places : List ℕ) (correct : CorrectReordering t
           → (k : ℕ) → suc holds.before.first + k ≤ n → holder l (along trace (take (suc holds.before.first + k) places)) ≡ Some t
       climb strong zero high =
           let (e, here) = event_there holds.before.first holds.since holds.before.at_first in
-          let own : e.thread ≡ t = (let a = holds.acquired.thread in let b = thread_here trace holds.since e here in cc) in
-          let op : e.op ≡ Acquire l = (let a = holds.acquired.op in let b = op_here trace holds.since e here in cc) in
+          let own : e.thread ≡ t = (let a = holds.acquired.thread in let b = thread_from_event trace holds.since e here in cc) in
+          let op : e.op ≡ Acquire l = (let a = holds.acquired.op in let b = op_from_event trace holds.since e here in cc) in
           rw add-zero (held_next holds.before.first holds.since e l holds.before.at_first here ∙ (rw (op, own, eq-eqb l l refl) refl))
       climb strong (suc k) high =
           let inside : n < length places = in_range places n p at_p in
@@ -222,7 +201,7 @@ module _ (trace : List Event) (places : List ℕ) (correct : CorrectReordering t
           let before : holder l (along trace (take (suc holds.before.first + k) places)) ≡ Some t = climb strong k (omega arith) in
           rw add-suc (held_next (suc holds.before.first + k) q e l at_q here
           ∙ stays k q at_q e here (omega arith) (λ u other. strong (suc holds.before.first + k) (omega arith) q u at_q other) e.op refl
-          (correct.locks q e (contains_of places (suc holds.before.first + k) q at_q) here) before)
+          (correct.locks q e (contains_at places (suc holds.before.first + k) q at_q) here) before)
         where
           stays : (k q : ℕ) → slice_get places (suc holds.before.first + k) ≡ Some q → (e : Event) → slice_get trace q ≡ Some e → suc holds.before.first + k < n
               → ((u : ℕ) → Holds trace (Earlier places) q u l → holder l (along trace (take (suc holds.before.first + k) places)) ≡ Some u)
@@ -248,7 +227,7 @@ module _ (trace : List Event) (places : List ℕ) (correct : CorrectReordering t
                 let same : m ≡ l = eqb-true m l x in
                 let by' = strong e.thread (subst (λ y. Holds trace (Earlier places) q e.thread y) same law) in
                 let own : e.thread ≡ t = (let both : Some e.thread ≡ Some t = sym by' ∙ before in cc) in
-                holds.kept q (record { thread = thread_here trace q e here ∙ ap Some own; op = op_here trace q e here ∙ ap Some (is ∙ ap Release same) })
+                holds.kept q (record { thread = thread_from_event trace q e here ∙ ap Some own; op = op_from_event trace q e here ∙ ap Some (is ∙ ap Release same) })
                 (earlier_at holds.before.first (suc holds.before.first + k) holds.since q (omega arith) holds.before.at_first at_q)
                 (earlier_at (suc holds.before.first + k) n q p less at_q at_p))
             | inr x ↦ rw x before
@@ -321,7 +300,7 @@ pub bridge : (trace : List Event) (places : List ℕ) → CorrectReordering trac
 bridge trace places correct done p rest split =
     let n : ℕ = length done in
     let at_p : slice_get places n ≡ Some p = ap (λ xs. slice_get xs n) split ∙ slice_mid done p rest in
-    let there : Contains places p = contains_of places n p at_p in
+    let there : Contains places p = contains_at places n p at_p in
     let (event, here) = get_in trace p (correct.within p there) in
     let front : take n places ≡ done = ap (take n) split ∙ take_at done (p ∷ rest) n refl in
     let old : (k i : ℕ) → k < n → slice_get done k ≡ Some i → slice_get places k ≡ Some i =
@@ -336,10 +315,10 @@ bridge trace places correct done p rest split =
       after = λ i before. (let e = correct.program i p there (before_too trace i p before) in
           let at_end : e.second ≡ n = correct.distinct e.second n p e.at_second at_p in
           let rise = e.rises in
-          contains_of done e.first i (new e.first i (omega arith) e.at_first));
+          contains_at done e.first i (new e.first i (omega arith) e.at_first));
       law = subst (λ xs. LockLaw (along trace xs) event.thread event.op) front (law_of trace places correct n p event at_p here event.op (correct.locks p event there here));
       writer = λ x reads.
-          (let read : Reads trace p x = op_here trace p event here ∙ ap Some reads in
+          (let read : Reads trace p x = op_from_event trace p event here ∙ ap Some reads in
           subst (λ xs. last_write trace x xs ≡ last_write trace x (upto p)) front
           (writer_of trace places correct n p x at_p (last_write trace x (upto p)) (correct.writers p x (last_write trace x (upto p)) there read (writer_in trace p x))));
     }

@@ -4,13 +4,14 @@ use Rattle.trace_laws.specs.declared.event.Op.{Op}
 use Rattle.trace_laws.specs.declared.event.Op.TheVariants.{Read, Write, Acquire, Release, Fork, Join}
 use Rattle.trace_laws.specs.Event.{Event}
 use Rattle.trace_laws.specs.Reordering.{CorrectReordering, Enabled, Accesses, Conflict, LeavesEnabled}
+use Rattle.trace_laws.proofs.Places.{op_from_event, thread_from_event}
 use Rattle.script_machine.specs.Machine.{Script, State, Taken, Step, Run, Can, CanStep, NextCall, after, brings, events, start, is_forked}
 use Rattle.script_machine.proofs.Steps.{get_in, thread_other, forked_step}
 use Rattle.script_machine.proofs.Determined.{run_unique}
 use Rattle.replayer.specs.Replays.{along, Ready, StaysReady, RaceReached}
 use Rattle.replayer.proofs.Along.{Enabled as EnabledAfter, forked_stays, awake_too}
 use Rattle.replayer.proofs.Replaying.{replay_along}
-use Rattle.replayer.proofs.Ordering.{bridge, before_too, op_here, thread_here}
+use Rattle.replayer.proofs.Ordering.{bridge, before_too}
 
 -- an access can be made at any time
 can_access : (script : Script) (s : State) (t : ℕ) (op : Op) → ((x : ℕ) × ((op ≡ Read x) ⊎ (op ≡ Write x))) → Can script s t op
@@ -59,7 +60,7 @@ stays_ready script s event other access apart next = record {
 access_of : (trace : List Event) (e x : ℕ) (event : Event) → slice_get trace e ≡ Some event → Accesses trace e x
     → (y : ℕ) × ((event.op ≡ Read y) ⊎ (event.op ≡ Write y))
 access_of trace e x event here access =
-    let op = op_here trace e event here in (
+    let op = op_from_event trace e event here in (
       x,
       elim access [
         | inl h ↦ inl (let both = sym op ∙ h in cc)
@@ -102,7 +103,7 @@ race_law script run end s places e1 e2 runs conflict leaves replayed =
     let (first, at_first) = get_in (events run) e1 one.within in
     let (second, at_second) = get_in (events run) e2 two.within in
     let apart : first.thread ≡ second.thread → ⊥ =
-    λ e. conflict.apart (thread_here (events run) e1 first at_first ∙ ap Some e ∙ sym (thread_here (events run) e2 second at_second)) in
+    λ e. conflict.apart (thread_from_event (events run) e1 first at_first ∙ ap Some e ∙ sym (thread_from_event (events run) e2 second at_second)) in
     let next_first = subst (λ w. NextCall script w first.thread first.op) same (next e1 first (enabled_after (events run) places e1 first at_first one)) in
     let next_second = subst (λ w. NextCall script w second.thread second.op) same (next e2 second (enabled_after (events run) places e2 second at_second two)) in
     record {

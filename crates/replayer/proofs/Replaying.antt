@@ -6,6 +6,7 @@ use Rattle.trace_laws.specs.declared.event.Op.{Op}
 use Rattle.trace_laws.specs.declared.event.Op.TheVariants.{Read, Acquire, Release, Fork, Join}
 use Rattle.trace_laws.specs.Event.{Event}
 use Rattle.replayer.specs.Replays.{along}
+use Rattle.trace_laws.proofs.Places.{contains_none}
 use Rattle.script_machine.specs.Machine.{Script, State, Taken, Step, Run, Can, IsEnded, NextCall, after, events, start, is_forked, is_waiting}
 use Rattle.script_machine.proofs.Steps.{taken_at, event_at, get_in, in_range, forked_from, thread_same, thread_other, owner_step, forked_step}
 use Rattle.replayer.proofs.Along.{upto, Before, InOrder, holder, last_write, LockLaw, Follows, Reordering, Enabled, forked_stays, forked_by, value_step, written, holder_push, written_push, brings_same, awake_too}
@@ -244,23 +245,19 @@ module _ (script : Script) (run : List Taken) (at : ℕ → State) (first : at 0
       pub one_more : (s' : State) × Step script s taken s' × Kept run at (done ++ p ∷ []) s'
       one_more = (next_state, step_too, kept_next)
 
-  -- the empty list has no place
-  not-inside : (q : ℕ) → Contains {X = ℕ} [] q → ⊥
-  not-inside q h = omega arith
-
   -- before the first place
   pub none_done : Kept run at [] (start script)
   none_done = record {
-    closed = λ i j inside less. absurd (not-inside j inside);
+    closed = λ i j inside less. absurd (contains_none j inside);
     local = λ t n h same.
         (let quiet : (q : ℕ) (e : Event) → 0 ≤ q → q < 0 + n → slice_get (events run) q ≡ Some e → e.thread ≡ t → ⊥ =
-        λ q e low high is mine. not-inside q (same.above q e is mine (omega arith)) in
+        λ q e low high is mine. contains_none q (same.above q e is mine (omega arith)) in
         let stays = local_at t 0 n (omega arith) quiet in
         let there = rw zero-add at stays in
         ap (λ z. z.thread t) (sym first) ∙ sym there);
     value = λ x. refl;
     owner = λ l. refl;
-    forked = λ u q e inside is forks. absurd (not-inside q inside);
+    forked = λ u q e inside is forks. absurd (contains_none q inside);
   }
 
   -- the places that are left, one after the other

@@ -6,6 +6,7 @@ use Rattle.trace_laws.specs.declared.event.Op.TheVariants.{Read, Write, Acquire,
 use Rattle.trace_laws.specs.Event.{Event}
 use Rattle.trace_laws.specs.Trace.{thread_at, op_at, Writes, Before, LockLaw, same_thread, fork_event, event_join, fork_join}
 use Rattle.trace_laws.specs.Reordering.{Earlier, CorrectReordering, Enabled, LeavesEnabled, IsNeeded}
+use Rattle.trace_laws.proofs.Places.{contains_none}
 use Rattle.trace_laws.specs.Findings.{HasCount}
 use Rattle.trace_laws.specs.Traces.{History}
 use Rattle.replayer.specs.Replayed.{IsRaceOf}
@@ -15,10 +16,6 @@ use Rattle.replayer.proofs.Reaching.{first_pick}
 only : (a p : ℕ) → Contains (a ∷ []) p → p ≡ a
 only a p (zero, less, same) = sym same
 only a p (suc k, less, same) = absurd (omega arith)
-
--- there is none in an empty list
-none_in : (p : ℕ) → Contains {X = ℕ} [] p → ⊥
-none_in p (k, less, same) = omega arith
 
 -- a list of one element holds it
 has_one : (a : ℕ) → Contains (a ∷ []) a
@@ -128,7 +125,7 @@ module _ (y x l m n : ℕ) where
     places = [];
     order = λ a b i j low at_a at_b. absurd (cc);
     members = λ p. (
-      (λ inside. absurd (none_in p inside)),
+      (λ inside. absurd (contains_none p inside)),
       (λ h. absurd (other_thread (subst (λ z. thread_at trace z ≡ Some 1) (none_else p h.1) h.0))),
     );
     size = refl;
