@@ -5,6 +5,7 @@ pub mod Patterns
 pub mod Findings
 pub mod Stored
 pub mod Kept
+pub mod Locations
 pub mod Closed
 pub mod Faults
 pub mod Building
