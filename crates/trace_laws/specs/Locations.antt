@@ -4,7 +4,7 @@ use Rattle.trace_laws.specs.Event.{Event}
 
 -- the events without their locations
 abbrev pub without_locations : List Event → List Event
-without_locations events = map (λ e. record e { loc = 0 }) events
+without_locations events = map {A = Event} (λ e. record e { loc = 0 }) events
 
 -- the same threads do the same, perhaps at other locations
 abbrev pub DoTheSame : List Event → List Event → Type 0
