@@ -2,7 +2,7 @@
 use Rattle.std.proofs.Common.{◌≡◌, ℕ, Bool, true, false, cond, List, [], ◌∷◌, ◌++◌, Some, map, length, nat_eq, nat_lt, not, refl, sym, ap, ◌∙◌, ◌+◌, arith, ◌||◌, ◌<◌, length-append}
 use Rattle.std.proofs.lemmas.List.{map-append, length-map}
 use Rattle.std.proofs.lemmas.Option.{cond_some}
-use Rattle.std.specs.List.{list_any, position_or_len, position}
+use Rattle.std.specs.List.{list_any, position_or_len, position, AllZip}
 use Rattle.std.specs.Cmp.Lexicographic.{pointwise}
 use Rattle.indexmap.specs.IndexSet.{insert_key}
 use Rattle.trace_laws.specs.Names.{same_name, is_numbered, number_of, with_name}
@@ -48,6 +48,13 @@ module _ {V : Type 0} (bytes : V → List ℕ) where
   pub place_seen : (test : List ℕ → Bool) (ks : List V) → position_or_len test (map bytes ks) ≡ position_or_len (λ k. test (bytes k)) ks
   place_seen test [] = refl
   place_seen test (k ∷ ks) = ap (λ n. cond (not (test (bytes k))) (1 + n) 0) (place_seen test ks)
+
+  -- clones that have the bytes of their sources are the same names
+  pub cloned : (C : V → V → Type 0) → ((v w : V) → C v w → bytes w ≡ bytes v) → (ks ls : List V) → AllZip C ks ls → map bytes ls ≡ map bytes ks
+  cloned C same [] [] h = refl
+  cloned C same [] (l ∷ ls) h = absurd h
+  cloned C same (k ∷ ks) [] h = absurd h
+  cloned C same (k ∷ ks) (l ∷ ls) h = λ j. same k l h.0 j ∷ cloned C same ks ls h.1 j
 
   -- a set of names, seen as the list of their bytes
   module _ (ks : List V) (names : List (List ℕ)) (view : map bytes ks ≡ names) where

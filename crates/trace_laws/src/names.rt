@@ -46,6 +46,17 @@ impl NameSpace {
         }
     }
 
+    // The same names with the same numbers.
+    fn copy(&self) -> Result<NameSpace, OutOfMemory>
+        ensures { IfOk result (λ n. n ≡ self.now) }
+    {
+        let names = self.names.clone()?;
+        Ok(NameSpace {
+            alloc: self.alloc,
+            names,
+        })
+    }
+
     // How many names there are.
     fn len(&self) -> usize
         ensures { result ≡ length self.now }
@@ -122,6 +133,19 @@ impl Names {
             threads: NameSpace::new(alloc),
             locks: NameSpace::new(alloc),
             vars: NameSpace::new(alloc),
+        })
+    }
+
+    /// The same names with the same numbers.
+    ///
+    /// Fails where memory runs out.
+    pub fn copy(&self) -> Result<Names, OutOfMemory>
+        ensures { IfOk result (λ n. n ≡ self.now) }
+    {
+        Ok(Names {
+            threads: self.threads.copy()?,
+            locks: self.locks.copy()?,
+            vars: self.vars.copy()?,
         })
     }
 

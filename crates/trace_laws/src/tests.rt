@@ -100,5 +100,7 @@ fn a_number_has_its_name(rt: HostRuntime) -> Result<(), Fail> {
     assert_eq!(rt; names.lock_name(lock), b"L".as_slice());
     let var = names.var(b"x")?;
     assert_eq!(rt; names.var_name(var), b"x".as_slice());
+    let copy = names.copy()?;
+    assert_eq!(rt; copy.var_name(var), b"x".as_slice());
     Ok(())
 }
