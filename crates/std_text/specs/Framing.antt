@@ -1,6 +1,7 @@
 -- The lines of a text: where each ends, how long it may be, its number, and the text in pieces.
 use Rattle.std.specs.Prelude.{◌≡◌, ℕ, ◌+◌, ◌-◌, Bool, List, [], ◌∷◌, ◌++◌, ◌==◌, ◌&&◌, length, take, slice_index, nat_lt, if◌then◌else◌, Result, Ok}
 use Rattle.sp_base.specs.declared.limits.TheConstants.{MAX_LINE, MAX_INPUT}
+use Rattle.trace_laws.specs.Names.{NameLists}
 use Rattle.std_text.specs.Fields.{newline}
 use Rattle.std_text.specs.Meaning.{Reading, refused, skipped, read_event}
 use Rattle.std_text.specs.declared.fault.StdKind.TheVariants.{LineTooLong, InputTooLong}
@@ -48,13 +49,25 @@ pub record Progress : Type 0 where
   pub rest : List ℕ
   pub taken : ℕ
 
+-- no line yet, where some names have numbers and the first line has this number
+abbrev pub begun_with : NameLists → ℕ → Reading
+begun_with names line = record { events = []; names = names; line = line }
+
+-- before the first byte, where some names have numbers and the first line has this number
+abbrev pub start_with : NameLists → ℕ → Progress
+start_with names line = record { reading = begun_with names line; rest = []; taken = 0 }
+
+-- no names
+abbrev pub no_names : NameLists
+no_names = record { threads = []; locks = []; vars = [] }
+
 -- no line yet
 abbrev pub begun : Reading
-begun = record { events = []; names = record { threads = []; locks = []; vars = [] }; line = 1 }
+begun = begun_with no_names 1
 
 -- before the first byte
 abbrev pub start : Progress
-start = record { reading = begun; rest = []; taken = 0 }
+start = start_with no_names 1
 
 -- after bytes behind the front of a line, with or without the byte past the limit behind them: a line is refused at the byte by which it is too long, that byte with the number of its line
 abbrev pub through : Reading → List ℕ → List ℕ → Bool → ℕ → Result Progress Refusal

@@ -45,7 +45,7 @@ pub struct TextReader {
 }
 
 impl Model for TextReader {
-    ghost use Rattle.std.specs.Prelude.{◌≤◌, ◌+◌, length};
+    ghost use Rattle.std.specs.Prelude.{◌<◌, ◌≤◌, ◌+◌, ◌^◌, length};
     ghost use Rattle.sp_base.specs.declared.limits.TheConstants.{MAX_INPUT, MAX_LINE};
     ghost use Rattle.std_text.specs.Framing.{Progress};
 
@@ -53,18 +53,20 @@ impl Model for TextReader {
 
     ghost view = { λ r. record { reading = r.lines; rest = r.rest.items; taken = r.taken } };
 
-    ghost invariant = { λ r. (r.lines.line + length r.rest.items ≤ r.taken + 1) × (r.taken ≤ MAX_INPUT) × (length r.rest.items ≤ MAX_LINE) };
+    ghost invariant = { λ r. (r.lines.line + length r.rest.items + MAX_INPUT < r.taken + 2 ^ 32) × (r.taken ≤ MAX_INPUT) × (length r.rest.items ≤ MAX_LINE) };
 }
 
 impl TextReader {
-    ghost use Rattle.std_text.specs.Framing.{start};
+    ghost use Rattle.sp_base.specs.declared.limits.TheConstants.{MAX_INPUT};
+    ghost use Rattle.std_text.specs.Framing.{start_with};
 
-    /// Before the first byte.
-    pub fn new(alloc: Global) -> Result<TextReader, OutOfMemory>
-        ensures { IfOk result (λ r. r ≡ start) }
+    /// Before the first byte, where these names have their numbers and the first line has this number.
+    pub fn after(alloc: Global, names: Names, line: u32) -> Result<TextReader, OutOfMemory>
+        requires { line + MAX_INPUT < 2 ^ 32 }
+        ensures { IfOk result (λ r. r ≡ start_with names line) }
     {
         Ok(TextReader {
-            lines: LineReader::new(alloc)?,
+            lines: LineReader::after(alloc, names, line)?,
             rest: Vec::new(alloc),
             taken: 0,
         })

@@ -79,16 +79,17 @@ fn law_kind(fault: &LawFault) -> StdKind
 }
 
 impl LineReader {
-    ghost use Rattle.std_text.specs.Framing.{begun};
+    ghost use Rattle.std_text.specs.Framing.{begun_with};
 
-    /// No line yet. It takes the room of all events.
-    pub fn new(alloc: Global) -> Result<LineReader, OutOfMemory>
-        ensures { IfOk result (λ r. r ≡ begun) }
+    /// No line yet, where these names have their numbers and the first line has this number. It takes the room of all
+    /// events.
+    pub fn after(alloc: Global, names: Names, line: u32) -> Result<LineReader, OutOfMemory>
+        ensures { IfOk result (λ r. r ≡ begun_with names line) }
     {
         Ok(LineReader {
             builder: Builder::new(alloc, MAX_EVENTS)?,
-            names: Names::new(alloc)?,
-            line: 1,
+            names,
+            line,
         })
     }
 

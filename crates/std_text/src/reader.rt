@@ -37,15 +37,29 @@ fn same_fault(fault: &ReadFault) -> ReadFault
 }
 
 impl Reader {
-    ghost use Rattle.std.specs.Prelude.{[]};
-    ghost use Rattle.std_text.specs.Framing.{start};
+    ghost use Rattle.std.specs.Prelude.{◌<◌, ◌+◌, ◌^◌, []};
+    ghost use Rattle.sp_base.specs.declared.limits.TheConstants.{MAX_INPUT};
+    ghost use Rattle.std_text.specs.Framing.{start, start_with};
 
     /// A reader of the empty text. It takes the room of all events.
+    ///
+    /// Fails where memory runs out.
     pub fn new(alloc: Global) -> Result<Reader, OutOfMemory>
         ensures { IfOk result (λ r. r ≡ record { read = Ok start; names = start.reading.names; closed = false }) }
     {
+        Reader::after(alloc, Names::new(alloc)?, 1)
+    }
+
+    /// A reader of the empty text that stands behind other lines: these names have their numbers, and the first line has
+    /// this number. It takes the room of all events.
+    ///
+    /// Fails where memory runs out.
+    pub fn after(alloc: Global, names: Names, line: u32) -> Result<Reader, OutOfMemory>
+        requires { line + MAX_INPUT < 2 ^ 32 }
+        ensures { IfOk result (λ r. r ≡ record { read = Ok (start_with names line); names = names; closed = false }) }
+    {
         Ok(Reader {
-            text: TextReader::new(alloc)?,
+            text: TextReader::after(alloc, names, line)?,
             failed: None,
             closed: false,
         })
