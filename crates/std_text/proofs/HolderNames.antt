@@ -68,7 +68,7 @@ keeps_all : (names : List (List ℕ)) → Keeps names names
 keeps_all names = record { size = omega arith; name = λ n within. refl }
 
 -- where one more name comes
-keeps_name : (names : List (List ℕ)) (name : List ℕ) → Keeps names (with_name names name)
+pub keeps_name : (names : List (List ℕ)) (name : List ℕ) → Keeps names (with_name names name)
 keeps_name names name = by (is_numbered names name)
   where
     by : (b : Bool) → Keeps names (cond b names (names ++ name ∷ []))

@@ -113,7 +113,7 @@ abbrev joined : List ℕ → List ℕ → List ℕ → List ℕ → List ℕ
 joined thread word operand place = thread ++ (bar ∷ (word ++ (opening ∷ (operand ++ closing ∷ bar ∷ place))))
 
 -- the written line, part by part
-line_parts : (thread word operand place : List ℕ) → thread ++ codes "|" ++ word ++ codes "(" ++ operand ++ codes ")|" ++ place ++ codes "\n" ≡ joined thread word operand place ++ 10 ∷ []
+line_parts : (thread word operand place : List ℕ) → (thread ++ codes "|" ++ word ++ codes "(" ++ operand ++ codes ")") ++ codes "|" ++ place ++ codes "\n" ≡ joined thread word operand place ++ 10 ∷ []
 line_parts thread word operand place = simp append_assoc refl
 
 -- its front, and its location

@@ -4,7 +4,6 @@ use Rattle.std.specs.declared.option.Option.{Option}
 use Rattle.std.specs.declared.option.Option.TheVariants.{None, Some}
 use Rattle.sp_base.specs.declared.limits.TheConstants.{MAX_EVENTS, MAX_THREADS, MAX_LOCKS, MAX_VARS}
 use Rattle.trace_laws.specs.Event.{Event}
-use Rattle.trace_laws.specs.Traces.{AreNamedBelow}
 use Rattle.trace_laws.specs.declared.event.Op.{Op}
 use Rattle.trace_laws.specs.declared.event.Op.TheVariants as op
 use Rattle.trace_laws.specs.declared.builder.LawFault.{LawFault}
@@ -16,6 +15,7 @@ use Rattle.std_text.specs.declared.fault.StdKind.TheVariants.{TooManyEvents, Too
 use Rattle.std_text.specs.Fields.{Parts, line_says}
 use Rattle.std_text.specs.Law.{Tells, law_fault, kind_of}
 use Rattle.std_text.specs.Refusal.{Refusal, refusal_of}
+use Rattle.std_text.specs.Writing.{AreNamed}
 
 -- the events and names of the lines so far, and the number of the next line
 pub record Reading : Type 0 where
@@ -110,8 +110,8 @@ read_said r (Err kind) = refused r kind
 abbrev pub read_event : Reading → List ℕ → Result Reading Refusal
 read_event r content = read_said r (line_says content)
 
--- what a reading in code keeps: room for all events, the threads that they name among the names, and the holders as they are computed
+-- what a reading in code keeps: room for all events, names for all that they name, and the holders as they are computed
 pub record IsSound (capacity : ℕ) (events : List Event) (names : NameLists) : Type 0 where
   pub capacity_is : capacity ≡ MAX_EVENTS
-  pub named : AreNamedBelow events (length names.threads)
+  pub named : AreNamed names events
   pub tells : Tells events

@@ -1,5 +1,5 @@
 -- What is written for the events of a trace.
-use Rattle.std.specs.Prelude.{◌<◌, ℕ, List, [], ◌++◌, length, codes, slice_get, unwrap_or, flat_map}
+use Rattle.std.specs.Prelude.{◌≡◌, ◌<◌, ℕ, List, [], ◌++◌, length, codes, Some, slice_get, unwrap_or, flat_map}
 use Rattle.std.specs.Fmt.{decimal}
 use Rattle.trace_laws.specs.Event.{Event}
 use Rattle.trace_laws.specs.declared.event.Op.{Op}
@@ -37,16 +37,26 @@ IsOperandNamed names (Release l) = l < length names.locks
 IsOperandNamed names (Fork u) = u < length names.threads
 IsOperandNamed names (Join u) = u < length names.threads
 
+-- all that a call of a thread names has a name
+pub record IsCallNamed (names : NameLists) (t : ℕ) (op : Op) : Type 0 where
+  pub thread : t < length names.threads
+  pub operand : IsOperandNamed names op
+
 -- all that an event names has a name
-pub record IsNamed (names : NameLists) (event : Event) : Type 0 where
-  pub thread : event.thread < length names.threads
-  pub operand : IsOperandNamed names event.op
+abbrev pub IsNamed : NameLists → Event → Type 0
+IsNamed names event = IsCallNamed names event.thread event.op
+
+-- all that the events name has a name
+abbrev pub AreNamed : NameLists → List Event → Type 0
+AreNamed names events = (i : ℕ) (e : Event) → slice_get events i ≡ Some e → IsNamed names e
+
+-- the call of a thread: thread|word(operand)
+abbrev pub call_text : NameLists → ℕ → Op → List ℕ
+call_text names t op = name_at names.threads t ++ codes "|" ++ word_of op ++ codes "(" ++ operand_name names op ++ codes ")"
 
 -- the line of an event: thread|word(operand)|location
 abbrev pub event_line : NameLists → Event → List ℕ
-event_line names event =
-    name_at names.threads event.thread ++ codes "|" ++ word_of event.op ++ codes "(" ++ operand_name names event.op ++ codes ")|"
-    ++ decimal event.loc ++ codes "\n"
+event_line names event = call_text names event.thread event.op ++ codes "|" ++ decimal event.loc ++ codes "\n"
 
 -- the text of a trace: the lines of its events
 abbrev pub trace_text : NameLists → List Event → List ℕ

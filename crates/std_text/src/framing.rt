@@ -2,6 +2,7 @@
 ghost use Rattle.std.specs.Prelude.{◌≡◌, ◌<◌, ◌≤◌, ◌+◌, ◌^◌, IfOk, [], ◌∷◌, length};
 ghost use Rattle.std_text.specs.Framing.{content, read_line, after, closed, PiecesAreTheText};
 ghost use Rattle.std_text.specs.Told.{Steps};
+ghost use Rattle.std_text.specs.Writing.{AreNamed};
 
 use crate::fault::{ReadFault, StdKind};
 use crate::line::LineReader;
@@ -128,6 +129,7 @@ impl TextReader {
     pub fn finish(self) -> (Trace, Names)
         ensures trace { result.0 ≡ record { events = self.reading.events; threads = length self.reading.names.threads } }
         ensures names { result.1 ≡ self.reading.names }
+        ensures named { AreNamed result.1 result.0.events }
     {
         let TextReader { lines, .. } = self;
         lines.finish()

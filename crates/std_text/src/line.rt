@@ -1,10 +1,10 @@
 // What one line means after the lines before it.
 ghost use Rattle.std.specs.Prelude.{◌≡◌, ◌<◌, ◌+◌, ◌^◌, ◌≤◌, IfOk, OnOk, OnErr, IsErrOf, true, false, Ok, Some, [], length};
-ghost use Rattle.trace_laws.specs.Traces.{NamesBelow};
 ghost use Rattle.std_text.specs.Law.{kind_of};
 ghost use Rattle.std_text.specs.Meaning.{with_operand, fits, too_many, op_on, skipped, read_event, read_parts};
 ghost use Rattle.std_text.specs.Refusal.{NamesNoHolder};
 ghost use Rattle.std_text.specs.Told.{Steps};
+ghost use Rattle.std_text.specs.Writing.{AreNamed, IsOperandNamed};
 
 use crate::fault::{ReadFault, StdFault, StdKind};
 use crate::fields::{Action, Fields, split_line};
@@ -35,7 +35,7 @@ impl Model for LineReader {
 fn operation_on(names: &mut Names, action: Action, operand: &[u8]) -> Result<Op, NameFault>
     ensures ok { OnOk result (names.new ≡ with_operand names.old action operand.now) }
     ensures operation { IfOk result (λ op. op ≡ op_on names.old action operand.now) }
-    ensures named { IfOk result (λ op. NamesBelow op (length names.new.threads)) }
+    ensures named { IfOk result (λ op. IsOperandNamed names.new op) }
     ensures within { OnOk result (fits names.new action ≡ true) }
     ensures err { OnErr result (names.new ≡ names.old) }
     ensures full { IsErrOf result NameFault.Full → fits (with_operand names.old action operand.now) action ≡ false }
@@ -179,6 +179,7 @@ impl LineReader {
     pub fn finish(self) -> (Trace, Names)
         ensures trace { result.0 ≡ record { events = self.events; threads = length self.names.threads } }
         ensures names { result.1 ≡ self.names }
+        ensures named { AreNamed result.1 result.0.events }
     {
         let LineReader { builder, names, .. } = self;
         let threads = names.threads();

@@ -2,6 +2,7 @@
 ghost use Rattle.std.specs.Prelude.{◌≡◌, true, false, Ok, IsOk, IfOk, IfErr, length};
 ghost use Rattle.std_text.specs.Framing.{after, closed};
 ghost use Rattle.std_text.specs.Told.{Reads, answer_of, IsHolderKnown};
+ghost use Rattle.std_text.specs.Writing.{AreNamed};
 
 use crate::fault::ReadFault;
 use crate::framing::TextReader;
@@ -116,12 +117,14 @@ impl Reader {
         self.text.names()
     }
 
-    /// The trace of the whole text, whose number of threads is that of the names, and the names.
+    /// The trace of the whole text, whose number of threads is that of the names, and the names, which all that its events
+    /// name has.
     pub fn finish(self) -> (Trace, Names)
         requires closed { self.closed ≡ true }
         requires read { IsOk self.read }
         ensures trace { IfOk self.read (λ p. result.0 ≡ record { events = p.reading.events; threads = length p.reading.names.threads }) }
         ensures names { IfOk self.read (λ p. result.1 ≡ p.reading.names) }
+        ensures named { AreNamed result.1 result.0.events }
     {
         let Reader { text, .. } = self;
         text.finish()

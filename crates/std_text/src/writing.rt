@@ -1,9 +1,9 @@
-// The lines of events.
+// The calls and the lines of events.
 ghost use Rattle.std.specs.Prelude.{◌≡◌, ◌++◌, IfOk, OnOk, OnErr, codes, string_bytes};
 ghost use Rattle.std.specs.Fmt.{decimal};
-ghost use Rattle.std_text.specs.Writing.{word_of, operand_name, event_line, IsOperandNamed, IsNamed};
+ghost use Rattle.std_text.specs.Writing.{word_of, operand_name, call_text, event_line, IsOperandNamed, IsCallNamed, IsNamed};
 
-use sp_base::OutOfMemory;
+use sp_base::{OutOfMemory, ThreadId};
 use std::alloc::Global;
 use trace_laws::{Event, Names, Op};
 
@@ -33,11 +33,45 @@ fn operand<'a>(op: &Op, names: &'a Names) -> &'a [u8]
     }
 }
 
-// What stands behind the operand.
-fn line_end(alloc: Global, location: u32) -> Result<String, OutOfMemory>
-    ensures { IfOk result (λ text. string_bytes text ≡ codes ")|" ++ decimal location ++ codes "\n") }
+// The text of a thread's call.
+fn call_of(alloc: Global, thread: ThreadId, op: &Op, names: &Names) -> Result<Vec<u8>, OutOfMemory>
+    requires { IsCallNamed names.now thread op.now }
+    ensures { IfOk result (λ call. call.items ≡ call_text names.now thread op.now) }
 {
-    match format!(in alloc; ")|{location}\n") {
+    let mut call = names.thread_name(thread).to_vec(alloc)?;
+    call.extend_from_slice(b"|")?;
+    call.extend_from_slice(word(op).as_bytes())?;
+    call.extend_from_slice(b"(")?;
+    call.extend_from_slice(operand(op, names))?;
+    call.extend_from_slice(b")")?;
+    Ok(call)
+}
+
+/// Appends the call of an operation by a thread, without a location and a newline, to a text. All that the call names has
+/// a name here.
+///
+/// Fails where memory runs out. The text then stays as it was.
+pub fn write_call(
+    alloc: Global,
+    thread: ThreadId,
+    op: &Op,
+    names: &Names,
+    text: &mut Vec<u8>,
+) -> Result<(), OutOfMemory>
+    requires { IsCallNamed names.now thread op.now }
+    ensures ok { OnOk result (text.new.items ≡ text.old.items ++ call_text names.now thread op.now) }
+    ensures err { OnErr result (text.new.items ≡ text.old.items) }
+{
+    let call = call_of(alloc, thread, op, names)?;
+    text.extend_from_slice(&call)?;
+    Ok(())
+}
+
+// What stands behind the call.
+fn line_end(alloc: Global, location: u32) -> Result<String, OutOfMemory>
+    ensures { IfOk result (λ text. string_bytes text ≡ codes "|" ++ decimal location ++ codes "\n") }
+{
+    match format!(in alloc; "|{location}\n") {
         Ok(text) => Ok(text),
         Err(_) => Err(OutOfMemory),
     }
@@ -49,11 +83,8 @@ fn line_of(alloc: Global, event: &Event, names: &Names) -> Result<Vec<u8>, OutOf
     ensures { IfOk result (λ line. line.items ≡ event_line names.now event.now) }
 {
     let end = line_end(alloc, event.loc)?;
-    let mut line = names.thread_name(event.thread).to_vec(alloc)?;
-    line.extend_from_slice(b"|")?;
-    line.extend_from_slice(word(&event.op).as_bytes())?;
-    line.extend_from_slice(b"(")?;
-    line.extend_from_slice(operand(&event.op, names))?;
+    let mut line = Vec::new(alloc);
+    write_call(alloc, event.thread, &event.op, names, &mut line)?;
     line.extend_from_slice(end.as_bytes())?;
     Ok(line)
 }

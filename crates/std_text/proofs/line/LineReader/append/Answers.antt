@@ -6,13 +6,13 @@ use Rattle.sp_base.specs.declared.limits.TheConstants.{MAX_EVENTS, MAX_THREADS}
 use Rattle.std_text.specs.Fields.{Parts}
 use Rattle.std_text.specs.Meaning.{Reading, event_of, with_thread, with_names, fits, too_many}
 use Rattle.std_text.specs.declared.fault.StdKind.TheVariants.{TooManyEvents, TooManyThreads}
-use Rattle.trace_laws.specs.Traces.{AreNamedBelow}
 use Rattle.trace_laws.specs.declared.builder.LawFault.{LawFault}
 use Rattle.std_text.specs.declared.fault.ReadFault.TheVariants.{Text}
 use Rattle.std_text.specs.Refusal.{NamesNoHolder}
-use Rattle.std_text.proofs.NamedLemmas.{named_more, named_push}
+use Rattle.std_text.specs.Writing.{AreNamed}
+use Rattle.std_text.proofs.NamedLemmas.{more_thread, more_names, named_more, named_push, named_below}
 use Rattle.std_text.proofs.HolderLemmas.{tells_push}
-use Rattle.std_text.proofs.HolderNames.{keeps_thread, keeps_operand, keeps_names, holder_given, refusal_kept, plain_refusal, name_failed}
+use Rattle.std_text.proofs.HolderNames.{keeps_operand, keeps_names, holder_given, refusal_kept, plain_refusal, name_failed}
 use Rattle.std_text.proofs.EventLemmas.{has_room, event_is, names_are, one_more, no_event, no_thread, no_operand, appended, broken}
 use Rattle.std_text.proofs.line.LineReader.append.Goals as goal
 
@@ -34,8 +34,8 @@ returns-in-Err-clause-read c =
 pub invariant_of-self-in-Err-operation_on : goal.invariant_of-self-in-Err-operation_on
 invariant_of-self-in-Err-operation_on c =
     let names : c.operation_on.new.names ≡ with_thread c.self.inside.names c.args.parts.now.thread.now = c.in-Err-operation_on.ensures.err ∙ c.in-Ok.ensures.ok in
-    let more = keeps_thread c.self.inside.names c.args.parts.now.thread.now in
-    record { capacity_is = c.self.invariant.capacity_is; named = rw names (named_more _ _ _ more.size c.self.invariant.named); tells = c.self.invariant.tells }
+    let more = more_thread c.self.inside.names c.args.parts.now.thread.now in
+    record { capacity_is = c.self.invariant.capacity_is; named = rw names (named_more _ _ _ more c.self.invariant.named); tells = c.self.invariant.tells }
 
 pub returns-in-Err-operation_on-clause-read : goal.returns-in-Err-operation_on-clause-read
 returns-in-Err-operation_on-clause-read c =
@@ -53,7 +53,7 @@ invariant_of-self-in-Err-push c =
     let r : Reading = record { events = c.self.inside.builder.events; names = c.self.inside.names; line = c.self.inside.line } in
     let p : Parts = record { thread = c.args.parts.now.thread.now; action = c.args.parts.now.action; operand = c.args.parts.now.operand.now; location = c.args.parts.now.location } in
     let names = names_are r p c.thread.new.self c.operation_on.new.names c.in-Ok.ensures.ok c.in-Ok-operation_on.ensures.ok in
-    rw (c.in-Err-push.ensures.err, names) record { capacity_is = c.self.invariant.capacity_is; named = named_more _ _ _ (keeps_names r.names p).size c.self.invariant.named; tells = c.self.invariant.tells }
+    rw (c.in-Err-push.ensures.err, names) record { capacity_is = c.self.invariant.capacity_is; named = named_more _ _ _ (more_names r.names p) c.self.invariant.named; tells = c.self.invariant.tells }
 
 pub returns-in-Err-push-clause-read : goal.returns-in-Err-push-clause-read
 returns-in-Err-push-clause-read c =
@@ -71,7 +71,7 @@ returns-in-Err-push-clause-read c =
     let one : (g : LawFault) → IsRefusedFor (built MAX_EVENTS) e g → g ≡ f =
     λ g h. let same = (c.in-Err-push.ensures.fault g).1 (subst (λ n. IsRefusedFor (built n) e g) (sym c.self.invariant.capacity_is) h) in cc in
     let read = broken r p e is less threads operand c.self.invariant.tells f refused one in
-    let given = holder_given (built MAX_EVENTS) r.names e f c.self.invariant.named refused in
+    let given = holder_given (built MAX_EVENTS) r.names e f (named_below _ _ c.self.invariant.named) refused in
     rw (← c.self.view_is, c.refusal-in-Err-push.ensures, c.law_kind.ensures, names) (refusal_kept _ r.names (with_names r.names p) _ (keeps_names r.names p) given read)
 
 pub invariant_of-self-2 : goal.invariant_of-self-2
@@ -83,10 +83,10 @@ invariant_of-self-2 c =
     let size : length c.thread.new.self.threads ≤ length c.operation_on.new.names.threads = rw c.in-Ok-operation_on.ensures.ok more.size in
     let given : c.in-Ok.thread < length c.thread.new.self.threads = c.in-Ok.ensures.given in
     let names = names_are r p c.thread.new.self c.operation_on.new.names c.in-Ok.ensures.ok c.in-Ok-operation_on.ensures.ok in
-    let before : AreNamedBelow r.events (length c.operation_on.new.names.threads) = rw names (named_more _ _ _ (keeps_names r.names p).size c.self.invariant.named) in
+    let before : AreNamed c.operation_on.new.names r.events = rw names (named_more _ _ _ (more_names r.names p) c.self.invariant.named) in
     let follows = c.in_default.ensures.accepts.0 refl in record {
       capacity_is = c.in_default.ensures.capacity ∙ c.self.invariant.capacity_is;
-      named = rw c.in_default.ensures.ok (named_push r.events e _ before (omega arith) c.in-Ok-operation_on.ensures.named);
+      named = rw c.in_default.ensures.ok (named_push _ r.events e before record { thread = omega arith; operand = c.in-Ok-operation_on.ensures.named });
       tells = rw c.in_default.ensures.ok (tells_push r.events e follows.1.locks c.self.invariant.tells);
     }
 
