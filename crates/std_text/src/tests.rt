@@ -1,24 +1,31 @@
 // What the reader makes of lines at the edges of the format.
-ghost use Rattle.std.specs.Prelude.{◌≡◌, false};
+ghost use Rattle.std.specs.Prelude.{◌≡◌, false, IfOk};
 ghost use Rattle.std_text.specs.Refusal.{IsHolderGiven};
 ghost use Rattle.std_text.specs.Told.{IsHolderKnown};
 
 use crate::{
-    ReadFault, Reader, StdKind, computed_laws_are_the_laws, pieces_are_the_text,
-    written_text_is_read,
+    ReadFault, Reader, StdKind, computed_laws_are_the_laws, pieces_are_the_text, write_call,
+    write_event, written_text_is_read,
 };
 use std::alloc::{AllocError, Global};
 use std::test::Fail;
-use trace_laws::{Names, Trace};
+use trace_laws::{Event, Names, Op, Trace};
 
 // Reads a whole text in one piece.
-fn read(alloc: Global, text: &[u8]) -> Result<(Trace, Names), ReadFault> {
-    let Ok(mut reader) = Reader::new(alloc) else {
-        return Err(ReadFault::OutOfMemory);
-    };
+fn read_by(mut reader: Reader, text: &[u8]) -> Result<(Trace, Names), ReadFault>
+    requires { reader.closed ≡ false }
+{
     reader.feed(text)?;
     reader.close()?;
     Ok(reader.finish())
+}
+
+// Reads a whole text that stands alone.
+fn read(alloc: Global, text: &[u8]) -> Result<(Trace, Names), ReadFault> {
+    let Ok(reader) = Reader::new(alloc) else {
+        return Err(ReadFault::OutOfMemory);
+    };
+    read_by(reader, text)
 }
 
 // The location of the first event of a text, where it has one and is taken.
@@ -411,6 +418,66 @@ fn skipped_lines_name_nothing(rt: HostRuntime) -> Result<(), Fail> {
     let (trace, names) = read(rt.alloc(), text)?;
     assert_eq!(rt; [trace.threads(), names.threads()], [2, 2]);
     assert_eq!(rt; [trace.len(), names.locks(), names.vars()], [2, 0, 1]);
+    Ok(())
+}
+
+// A reader behind six lines that name a thread T, a lock L and a variable X.
+fn behind_others(alloc: Global) -> Result<Reader, Fail>
+    ensures { IfOk result (λ r. r.closed ≡ false) }
+{
+    let mut names = Names::new(alloc)?;
+    names.thread(b"T")?;
+    names.lock(b"L")?;
+    names.var(b"X")?;
+    Ok(Reader::after(alloc, names, 7)?)
+}
+
+// The number of the thread of the first event, and the counts of threads, locks and variables.
+fn counts(trace: &Trace, names: &Names) -> (Option<u16>, u16, u32, u32) {
+    let first = match trace.is_empty() {
+        true => None,
+        false => Some(trace.event(0).thread.value()),
+    };
+    (first, names.threads(), names.locks(), names.vars())
+}
+
+#[test]
+fn names_and_lines_go_on(rt: HostRuntime) -> Result<(), Fail> {
+    let alloc = rt.alloc();
+    for (case, text, told) in [
+        ("the names alone", "T|acq(L)\nT|w(X)\n", (Some(0), 1, 1, 1)),
+        (
+            "a new thread first",
+            "U|acq(L)\nT|w(X)\n",
+            (Some(1), 2, 1, 1),
+        ),
+        (
+            "a new lock and variable",
+            "T|acq(M)\nT|w(Y)\n",
+            (Some(0), 1, 2, 2),
+        ),
+    ] {
+        let (trace, names) = read_by(behind_others(alloc)?, text.as_bytes())?;
+        assert_eq!(rt; counts(&trace, &names), told, "{case}");
+    }
+    let mut reader = behind_others(alloc)?;
+    let told = told_at(&mut reader, b"T|acq(L)\nT|w(X\n");
+    assert_eq!(rt; told, (8, 5));
+    Ok(())
+}
+
+#[test]
+fn calls_and_lines_are_written(rt: HostRuntime) -> Result<(), Fail> {
+    let alloc = rt.alloc();
+    let mut names = Names::new(alloc)?;
+    let thread = names.thread(b"T")?;
+    let lock = names.lock(b"L")?;
+    let op = Op::Acquire(lock);
+    let mut text = Vec::new(alloc);
+    write_call(alloc, thread, &op, &names, &mut text)?;
+    let loc = 7;
+    write_event(alloc, &Event { thread, op, loc }, &names, &mut text)?;
+    assert_eq!(rt; text.as_slice(), b"T|acq(L)T|acq(L)|7\n".as_slice());
     Ok(())
 }
 
