@@ -27,6 +27,7 @@ pub mod Exclusive
 pub mod OneFork
 pub mod Formed
 pub mod Determined
+pub mod OfTrace
 pub mod Limits
 pub mod KnownNames
 pub mod WholeText

@@ -51,7 +51,7 @@ when_ok (Ok x) P is h = h
 when_ok (Err e) P is h = absurd (cc)
 
 -- after a run nothing is left past the last thread
-run_inside : (script : Script) (takens : List Taken) (s s' : State) → NoneOutside script s → Run script s takens s' → NoneOutside script s'
+pub run_inside : (script : Script) (takens : List Taken) (s s' : State) → NoneOutside script s → Run script s takens s' → NoneOutside script s'
 run_inside script [] s s' none run = subst (λ z. NoneOutside script z) run none
 run_inside script (x ∷ xs) s s' none (mid, step, run) = run_inside script xs mid s' (none_after script s mid x none step) run
 

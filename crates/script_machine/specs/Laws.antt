@@ -2,7 +2,9 @@
 use Rattle.std.specs.Prelude.{◌≡◌, ℕ, ◌≤◌, List, length, map}
 use Rattle.trace_laws.specs.Event.{Event}
 use Rattle.trace_laws.specs.Trace.{Lawful}
+use Rattle.trace_laws.specs.Locations.{DoTheSame}
 use Rattle.script_machine.specs.Machine.{Script, State, Taken, Run, LegalRun, ForksOnce, start, size_of}
+use Rattle.script_machine.specs.OfTrace.{IsFirstNoStep}
 use Rattle.script_machine.specs.ScriptText.{Scripts, FirstFault}
 use Rattle.script_machine.specs.declared.fault.ScriptFault.{ScriptFault as Fault}
 
@@ -23,3 +25,10 @@ DeterminedLaw = (script : Script) (one other : List Taken) (end end' : State) �
 abbrev pub ExclusiveLaw : Type 0
 ExclusiveLaw = (text : List ℕ) (script : Script) → Scripts text script
     → ((other : Script) → Scripts text other → script ≡ other) × ((fault : Fault) → FirstFault text fault → ⊥)
+
+-- A trace that does the same as a legal run has no first place that is no step, and two legal runs that do the same as one
+-- trace are one.
+abbrev pub OfLaw : Type 0
+OfLaw = (script : Script) (trace run : List Event) (end : State) → LegalRun script run end → DoTheSame run trace
+    → ((place : ℕ) → IsFirstNoStep script trace place → ⊥)
+    × ((other : List Event) (end' : State) → LegalRun script other end' → DoTheSame other trace → (run ≡ other) × (end ≡ end'))

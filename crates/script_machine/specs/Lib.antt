@@ -16,4 +16,5 @@ pub mod ScriptBounds
 pub mod Lowest
 pub mod Recorded
 pub mod RecordedBy
+pub mod OfTrace
 pub mod Laws

@@ -105,6 +105,7 @@ fn steps_as_the_script_says(rt: HostRuntime) {
     laws::lawful_law();
     laws::determined_law();
     laws::exclusive_law();
+    laws::of_law();
     let text =
         b"thread a\nwrite x 5\nfork b\njoin b\nthread b\nread x\nif 5\nlock l\nend\n".as_slice();
     let Ok(script) = Script::read(rt.alloc(), text) else {

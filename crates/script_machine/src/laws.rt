@@ -1,6 +1,6 @@
 //! The laws of the machine, over all runs of all scripts.
 
-ghost use Rattle.script_machine.specs.Laws.{SizeLaw, LawfulLaw, DeterminedLaw, ExclusiveLaw};
+ghost use Rattle.script_machine.specs.Laws.{SizeLaw, LawfulLaw, DeterminedLaw, ExclusiveLaw, OfLaw};
 
 /// A legal run has at most as many events as the script has instructions.
 pub fn size_law()
@@ -20,4 +20,9 @@ pub fn determined_law()
 /// A text has one script at most, and where it has one it has no fault.
 pub fn exclusive_law()
     ensures { ExclusiveLaw }
+{}
+
+/// A trace that does the same as a legal run has no first place that is no step, and no other run does the same.
+pub fn of_law()
+    ensures { OfLaw }
 {}

@@ -11,6 +11,8 @@ mod instruction;
 pub mod laws;
 mod lines;
 mod machine;
+#[cfg(test)]
+mod of_trials;
 mod read;
 #[cfg(test)]
 mod read_trials;
@@ -28,7 +30,7 @@ mod whole;
 pub use fault::{ScriptError, ScriptFault, ScriptKind};
 pub(crate) use instruction::{Instruction, Line};
 pub use machine::{Machine, ThreadState};
-pub use recording::Recording;
+pub use recording::{Recording, RunFault};
 pub use run::Run;
 pub use script::Script;
 pub use thread_run::ThreadRun;

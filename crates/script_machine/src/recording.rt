@@ -1,17 +1,41 @@
 //! Recordings: finished runs.
 
-ghost use Rattle.std.specs.Prelude.{◌≡◌, ◌↔◌, ℕ, ◌<◌, length, IfOk, IfSome, IfNone, IsTrue};
-ghost use Rattle.script_machine.specs.Machine.{CanStep, IsComplete};
+ghost use Rattle.std.specs.Prelude.{◌≡◌, ◌↔◌, ℕ, ◌<◌, [], ◌∷◌, ◌++◌, length, Err, IfOk, IfSome, IfNone, IsTrue};
+ghost use Rattle.trace_laws.specs.Locations.{DoTheSame};
+ghost use Rattle.script_machine.specs.Machine.{LegalRun, CanStep, IsComplete};
 ghost use Rattle.script_machine.specs.Held.{meaning};
 ghost use Rattle.script_machine.specs.Lowest.{NoneBelow, LegalLowestRun};
 ghost use Rattle.script_machine.specs.Recorded.{IsRecording};
+ghost use Rattle.script_machine.specs.OfTrace.{NoStepOf, IsFirstNoStep};
 
 use crate::ids::thread_id;
 use crate::{Machine, Run, Script};
-use sp_base::{OutOfMemory, ThreadId};
+use sp_base::{OutOfMemory as NoMemory, ThreadId};
 use std::alloc::Global;
 use std::marker::Model;
-use trace_laws::Trace;
+use thiserror::Error;
+use trace_laws::{Event, Trace};
+
+/// Why a trace is no run of a script.
+#[derive(Clone, Copy, Debug, PartialEq, Eq, Error)]
+pub enum RunFault {
+    /// The place is the first whose thread and operation are no step of the script after those before it.
+    #[error("place {0} is no step of the script")]
+    NotAStep(u32),
+    /// Memory ran out.
+    #[error("out of memory")]
+    OutOfMemory,
+}
+
+impl From<NoMemory> for RunFault {
+    ghost use Rattle.script_machine.specs.declared.recording.RunFault.TheVariants.{OutOfMemory};
+
+    ghost from_gives = { λ _ e. e ≡ OutOfMemory };
+
+    fn from(_error: NoMemory) -> RunFault {
+        RunFault::OutOfMemory
+    }
+}
 
 /// A trace that is a legal run of a script, with the script's number of threads, and the machine after it.
 #[derive(Drop)]
@@ -65,7 +89,7 @@ impl<'a> Recording<'a> {
     }
 
     /// Steps the lowest thread that can step, until none can. Its only error is want of memory.
-    pub fn alone(alloc: Global, script: &'a Script) -> Result<Recording<'a>, OutOfMemory>
+    pub fn alone(alloc: Global, script: &'a Script) -> Result<Recording<'a>, NoMemory>
         ensures script { IfOk result (λ r. r.machine.script ≡ script.now) }
         ensures recording { IfOk result (λ r. IsRecording r) }
         ensures complete { IfOk result (λ r. IsComplete script.now (meaning r.machine)) }
@@ -77,6 +101,47 @@ impl<'a> Recording<'a> {
         }
         Ok(run.finish())
     }
+
+    /// The recording of a trace: the run of the script in which the same threads do the same. Locations are not
+    /// compared; the recording has those of the script.
+    ///
+    /// Fails with the first place that is no step, and where memory runs out.
+    pub fn of(alloc: Global, script: &'a Script, trace: &Trace) -> Result<Recording<'a>, RunFault>
+        ensures script { IfOk result (λ r. r.machine.script ≡ script.now) }
+        ensures recording { IfOk result (λ r. IsRecording r) }
+        ensures same { IfOk result (λ r. DoTheSame r.trace.events trace.now.events) }
+        ensures fault { (place : ℕ) → result ≡ Err (RunFault.NotAStep place) → IsFirstNoStep script.now trace.now.events place }
+    {
+        let mut run = Run::new(alloc, script)?;
+        for place in 0..trace.len() {
+            let event = trace.event(place);
+            let Some(_) = follow(&mut run, &event) else {
+                return Err(RunFault::NotAStep(place));
+            };
+        }
+        Ok(run.finish())
+    }
+}
+
+// Takes the step of the event's thread and operation, and answers its event; none, and nothing changes, where there is
+// no such step.
+fn follow(run: &mut Run, event: &Event) -> Option<Event>
+    ensures script { run.new.machine.script ≡ run.old.machine.script }
+    ensures same { IfSome result (λ taken. DoTheSame (taken ∷ []) (event.now ∷ [])) }
+    ensures events { IfSome result (λ taken. run.new.events ≡ run.old.events ++ taken ∷ []) }
+    ensures legal { LegalRun run.old.machine.script run.old.events (meaning run.old.machine) }
+    ensures none { IfNone result (NoStepOf run.old.machine.script (meaning run.old.machine) event.now) }
+    ensures unchanged { IfNone result (run.new ≡ run.old) }
+{
+    let thread = event.thread;
+    let machine = run.machine();
+    if thread.value() >= machine.threads() {
+        return None;
+    }
+    if machine.next_op(thread) != Some(event.op) {
+        return None;
+    }
+    run.step(thread)
 }
 
 // The lowest thread that can step.
