@@ -1,5 +1,5 @@
--- The events of a run name threads of the script.
-use Rattle.std.proofs.Common.{◌≡◌, ℕ, zero, suc, ◌<◌, inl, inr, List, [], ◌∷◌, length, sym, subst, arith}
+-- The threads and operands of the events of a run are those of the script.
+use Rattle.std.proofs.Common.{◌≡◌, ℕ, zero, suc, ◌<◌, inl, inr, List, [], ◌∷◌, length, slice_get, Some, sym, subst, arith}
 use Rattle.std.proofs.lemmas.List.Elements.{All-head, All-tail}
 use Rattle.std.proofs.lemmas.Bool.{cases_eq, cases_lt}
 use Rattle.trace_laws.specs.Event.{Event}
@@ -7,6 +7,7 @@ use Rattle.trace_laws.specs.declared.event.Op.{Op}
 use Rattle.trace_laws.specs.declared.event.Op.TheVariants.{Fork, Join}
 use Rattle.trace_laws.specs.Traces.{NamesBelow, AreNamedBelow}
 use Rattle.script_machine.specs.Machine.{Script, State, Taken, Step, Run, LegalRun, InRange, OpInRange, IsWellFormed, body, start, events}
+use Rattle.script_machine.specs.Recorded.{AreInRange}
 use Rattle.script_machine.proofs.InRange.{Operands, op_there, settled_in_range}
 use Rattle.script_machine.proofs.Sizes.{NoneOutside, thread_inside, none_after, none_at_start}
 use Rattle.script_machine.proofs.Steps.{thread_same, thread_other}
@@ -41,25 +42,29 @@ names_below script (Fork u) h = h
 names_below script (Join u) h = h
 names_below script _ h = tt
 
--- the first event of a run
-first_named : (script : Script) (s s' : State) (taken : Taken) → NoneOutside script s → Inside script s → Step script s taken s'
-    → (taken.event.thread < length script.bodies) × NamesBelow taken.event.op (length script.bodies)
-first_named script s s' taken none inside step = (
-  thread_inside script s s' taken none step,
-  names_below script taken.event.op (op_there script step.line.instruction taken.event.op step.op
-      (All-head (λ l. InRange script l.instruction) step.line step.rest (of_step script s s' taken inside step))),
-)
+-- the operand of a step is in range
+operand_of_step : (script : Script) (s s' : State) (taken : Taken) → Inside script s → Step script s taken s' → OpInRange script taken.event.op
+operand_of_step script s s' taken inside step =
+    op_there script step.line.instruction taken.event.op step.op (All-head (λ l. InRange script l.instruction) step.line step.rest (of_step script s s' taken inside step))
 
--- each event of a run
-run_named : (script : Script) (takens : List Taken) (s s' : State) → NoneOutside script s → Inside script s → Run script s takens s' → AreNamedBelow (events takens) (length script.bodies)
-run_named script [] s s' none inside run i e h = absurd (cc)
-run_named script (x ∷ xs) s s' none inside (mid, step, run) zero e h =
+-- the thread and the operand of each event of a run
+run_in_range : (script : Script) (takens : List Taken) (s s' : State) → NoneOutside script s → Inside script s → Run script s takens s' → (i : ℕ) (e : Event) → slice_get (events takens) i ≡ Some e
+    → (e.thread < length script.bodies) × OpInRange script e.op
+run_in_range script [] s s' none inside run i e at = absurd (cc)
+run_in_range script (x ∷ xs) s s' none inside (mid, step, run) zero e at =
     let same : x.event ≡ e = cc in
-    subst (λ y. (y.thread < length script.bodies) × NamesBelow y.op (length script.bodies)) same (first_named script s mid x none inside step)
-run_named script (x ∷ xs) s s' none inside (mid, step, run) (suc i) e h =
-    run_named script xs mid s' (none_after script s mid x none step) (inside_after script s mid x inside step) run i e h
+    subst (λ y. (y.thread < length script.bodies) × OpInRange script y.op) same (thread_inside script s mid x none step, operand_of_step script s mid x inside step)
+run_in_range script (x ∷ xs) s s' none inside (mid, step, run) (suc i) e at =
+    run_in_range script xs mid s' (none_after script s mid x none step) (inside_after script s mid x inside step) run i e at
 
--- all events of a legal run
+-- those of the events of a legal run
+pub legal_in_range : (script : Script) (trace : List Event) (s : State) → IsWellFormed script → LegalRun script trace s → AreInRange script trace
+legal_in_range script trace s formed (takens, are, run) =
+    let each = run_in_range script takens (start script) s (none_at_start script) (inside_at_start script formed) run in
+    subst (AreInRange script) (sym are) (record { threads = λ i e at. (each i e at).0; operands = λ i e at. (each i e at).1 })
+
+-- so each thread that they name is one of the script
 pub legal_named : (script : Script) (trace : List Event) (s : State) → IsWellFormed script → LegalRun script trace s → AreNamedBelow trace (length script.bodies)
-legal_named script trace s formed (takens, are, run) =
-    subst (λ es. AreNamedBelow es (length script.bodies)) (sym are) (run_named script takens (start script) s (none_at_start script) (inside_at_start script formed) run)
+legal_named script trace s formed legal i e at =
+    let within = legal_in_range script trace s formed legal in
+    (within.threads i e at, names_below script e.op (within.operands i e at))

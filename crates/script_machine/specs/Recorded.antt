@@ -1,8 +1,8 @@
 -- Runs with the machine after them.
-use Rattle.std.specs.Prelude.{◌≡◌, List, length}
+use Rattle.std.specs.Prelude.{◌≡◌, ◌<◌, ℕ, List, Some, length, slice_get}
 use Rattle.trace_laws.specs.Event.{Event}
 use Rattle.trace_laws.specs.Traces.{History}
-use Rattle.script_machine.specs.Machine.{LegalRun}
+use Rattle.script_machine.specs.Machine.{Script, LegalRun, OpInRange}
 use Rattle.script_machine.specs.ScriptBounds.{IsScript}
 use Rattle.script_machine.specs.Held.{Held, meaning}
 
@@ -26,3 +26,8 @@ pub record IsRecording (r : Recorded) : Type 0 where
   pub script : IsScript r.machine.script
   pub legal : LegalRun r.machine.script r.trace.events (meaning r.machine)
   pub threads : r.trace.threads ≡ length r.machine.script.bodies
+
+-- the threads of the events are threads of the script, and their operands are locks, variables and threads of it
+pub record AreInRange (script : Script) (events : List Event) : Type 0 where
+  pub threads : (i : ℕ) (e : Event) → slice_get events i ≡ Some e → e.thread < length script.bodies
+  pub operands : (i : ℕ) (e : Event) → slice_get events i ≡ Some e → OpInRange script e.op

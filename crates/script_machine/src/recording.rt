@@ -5,7 +5,7 @@ ghost use Rattle.trace_laws.specs.Locations.{DoTheSame};
 ghost use Rattle.script_machine.specs.Machine.{LegalRun, CanStep, IsComplete};
 ghost use Rattle.script_machine.specs.Held.{meaning};
 ghost use Rattle.script_machine.specs.Lowest.{NoneBelow, LegalLowestRun};
-ghost use Rattle.script_machine.specs.Recorded.{IsRecording};
+ghost use Rattle.script_machine.specs.Recorded.{AreInRange, IsRecording};
 ghost use Rattle.script_machine.specs.OfTrace.{NoStepOf, IsFirstNoStep};
 
 use crate::ids::thread_id;
@@ -69,6 +69,7 @@ impl<'a> Recording<'a> {
     pub fn trace(&self) -> &Trace
         ensures value { result.now ≡ self.now.trace }
         ensures recording { IsRecording self.now }
+        ensures operands { AreInRange self.now.machine.script self.now.trace.events }
     {
         &self.trace
     }
