@@ -1,9 +1,11 @@
 -- Keeping the first events of each thread, place by place.
-use Rattle.std.proofs.Common.{◌≡◌, ◌≢◌, ℕ, suc, ◌+◌, ◌-◌, ◌<◌, ◌≤◌, List, [], ◌∷◌, ◌++◌, length, Option, Some, ◌⊎◌, inl, inr, refl, sym, ap, subst, ◌∙◌, arith}
-use Rattle.std.specs.Prelude.{Contains, ◌↔◌, ◌==◌, slice_get, slice_set, slice_index, unwrap_or}
+use Rattle.std.proofs.Common.{◌≡◌, ◌≢◌, ℕ, zero, suc, ◌+◌, ◌-◌, ◌<◌, ◌≤◌, List, [], ◌∷◌, ◌++◌, length, take, cond, get_or, Option, Some, ◌⊎◌, inl, inr, refl, sym, ap, subst, ◌∙◌, arith}
+use Rattle.std.specs.Prelude.{Contains, sum, count_by, ◌↔◌, ◌==◌, slice_get, slice_set, slice_index, unwrap_or}
 use Rattle.std.proofs.Math.ListN.{length-set}
-use Rattle.std.proofs.lemmas.Bool.{cases_eq}
-use Rattle.std.proofs.lemmas.Option.{slice_get_within, unwrap_or-slice_get}
+use Rattle.std.proofs.lemmas.Bool.{cases_eq, cases_lt}
+use Rattle.std.proofs.lemmas.Option.{slice_get_within, get_or_from_slice_get, unwrap_or-slice_get}
+use Rattle.std.proofs.lemmas.List.{get_or_past}
+use Rattle.std.proofs.lemmas.List.Sums.{sum_by-set, sum_by-take-le}
 use Rattle.std.proofs.lemmas.List.Elements.{Contains-push, Contains-push_cases, Contains-append_left}
 use Rattle.trace_laws.specs.Event.{Event}
 use Rattle.trace_laws.specs.Trace.{thread_at}
@@ -145,3 +147,67 @@ all_kept trace keep n left places all kept = record {
   order = kept.order;
   members = λ p. (λ c. ((kept.members p).0 c).1, λ is. (kept.members p).1 (let inside = within_from_thread trace p is.thread is.is_of in omega arith, is));
 }
+
+-- the front of a longer front
+take-take : {X : Type 0} (xs : List X) (n p : ℕ) → n ≤ p → take n (take p xs) ≡ take n xs
+take-take xs zero p le = refl
+take-take xs (suc n) zero le = absurd (omega arith)
+take-take [] (suc n) (suc p) le = refl
+take-take (x ∷ xs) (suc n) (suc p) le = ap (λ ys. x ∷ ys) (take-take xs n p (omega arith))
+
+-- there is an element at an index, or the list ends before it
+index_in : (xs : List ℕ) (i : ℕ) → ((k : ℕ) × (slice_get xs i ≡ Some k)) ⊎ (length xs ≤ i)
+index_in [] i = inr (omega arith)
+index_in (x ∷ xs) zero = inl (x, refl)
+index_in (x ∷ xs) (suc i) = go (index_in xs i)
+  where
+    go : ((k : ℕ) × (slice_get xs i ≡ Some k)) ⊎ (length xs ≤ i) → ((k : ℕ) × (slice_get xs i ≡ Some k)) ⊎ (suc (length xs) ≤ suc i)
+    go (inl h) = inl h
+    go (inr h) = inr (omega arith)
+
+-- an element of a list of sum 0
+none_in : (xs : List ℕ) (i k : ℕ) → sum xs ≡ 0 → slice_get xs i ≡ Some k → k ≡ 0
+none_in xs i k none at =
+    let less = slice_get_within xs i k at in
+    let read : get_or xs i k ≡ k = get_or_from_slice_get xs i k k at in
+    let set = sum_by-set (λ (x : ℕ). x) xs i 0 k less in
+    omega arith
+
+-- the sum of what is left where one more event is kept
+pub one_less : (left : List ℕ) (t k rest : ℕ) → slice_get left t ≡ Some k → 0 < k → rest ≡ sum left → rest - 1 ≡ sum (slice_set left t (k - 1))
+one_less left t k rest at some is =
+    let less = slice_get_within left t k at in
+    let read : get_or left t k ≡ k = get_or_from_slice_get left t k k at in
+    let set = sum_by-set (λ (x : ℕ). x) left t (k - 1) k less in
+    omega arith
+
+-- a thread has no fewer events before a later place
+count_longer : (trace : List Event) (t n p : ℕ) → n ≤ p → count_of trace t n ≤ count_of trace t p
+count_longer trace t n p le =
+    subst (λ (xs : List Event). count_by (λ (e : Event). e.thread == t) xs ≤ count_of trace t p) (take-take trace n p le)
+    (sum_by-take-le (λ (e : Event). cond (e.thread == t) 1 0) (take p trace) n)
+
+-- where none is left, the kept places before are all
+pub all_kept_early : (trace : List Event) (keep : List ℕ) (n : ℕ) (left places : List ℕ) → sum left ≡ 0 → AreKeptBefore trace keep n left places → AreKept trace keep places
+all_kept_early trace keep n left places none kept = record {
+  order = kept.order;
+  members = λ p. (λ c. ((kept.members p).0 c).1, λ is. (kept.members p).1 (before p is (cases_lt p n), is));
+}
+  where
+    never : (p : ℕ) (is : IsKept trace keep p) → n ≤ p → ((k : ℕ) × (slice_get left is.thread ≡ Some k)) ⊎ (length left ≤ is.thread) → ⊥
+    never p is past (inl (k, at)) =
+        let here : k ≡ slice_index keep is.thread - count_of trace is.thread n = kept.rest is.thread k at in
+        let zero_left : k ≡ 0 = none_in left is.thread k none at in
+        let more = count_longer trace is.thread n p past in
+        let number = local_here trace keep p is.thread is.is_of in
+        let below = is.below in
+        omega arith
+    never p is past (inr outside) =
+        let size = kept.size in
+        let nothing : slice_index keep is.thread ≡ 0 = get_or_past keep is.thread 0 (omega arith) in
+        let below = is.below in
+        omega arith
+
+    before : (p : ℕ) → IsKept trace keep p → (p < n) ⊎ (n ≤ p) → p < n
+    before p is (inl less) = less
+    before p is (inr past) = absurd (never p is past (index_in left is.thread))

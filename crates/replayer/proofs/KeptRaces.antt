@@ -8,10 +8,10 @@ use Rattle.trace_laws.specs.Reordering.{Conflict, LeavesEnabled}
 use Rattle.script_machine.specs.Machine.{Script, State, NextCall, CanStep, IsRunning, start}
 use Rattle.script_machine.specs.Held.{Held, meaning}
 use Rattle.script_machine.proofs.Sizes.{thread_inside, none_at_start}
+use Rattle.script_machine.proofs.Runs.{run_inside}
 use Rattle.replayer.specs.Reorders.{FollowsKeep}
 use Rattle.replayer.specs.Replays.{along, Ready, ReplaysTo, RaceReached}
 use Rattle.replayer.specs.Replayed.{IsRaceOf, IsRunningIn, IsReplayOf, ReachesRace}
-use Rattle.replayer.proofs.KeptSteps.{run_inside}
 use Rattle.replayer.proofs.Reaching.{race_law}
 
 -- the kept places leave the race enabled

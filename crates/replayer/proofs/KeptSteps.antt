@@ -6,8 +6,8 @@ use Rattle.trace_laws.specs.Reordering.{CorrectReordering}
 use Rattle.script_machine.specs.Machine.{Script, State, Taken, Step, StepOf, Run, LegalRun, CanStep, start}
 use Rattle.script_machine.specs.Held.{Held, meaning}
 use Rattle.script_machine.proofs.Steps.{taken_at}
-use Rattle.script_machine.proofs.Sizes.{thread_inside, none_after, none_at_start, NoneOutside}
-use Rattle.script_machine.proofs.Runs.{run_push}
+use Rattle.script_machine.proofs.Sizes.{thread_inside, none_at_start}
+use Rattle.script_machine.proofs.Runs.{run_push, run_inside}
 use Rattle.script_machine.proofs.Determined.{run_unique, step_unique}
 use Rattle.replayer.specs.Replays.{along, ReplaysTo}
 use Rattle.replayer.proofs.Along.{along_push}
@@ -40,11 +40,6 @@ step_in script [] taken ys s s' (mid, step, more) = record { middle = s; next = 
 step_in script (x ∷ xs) taken ys s s' (mid, step, more) =
     let rest = step_in script xs taken ys mid s' more in
     record { middle = rest.middle; next = rest.next; run = (mid, step, rest.run); step = rest.step }
-
--- after a run nothing is left past the last thread
-pub run_inside : (script : Script) (takens : List Taken) (s s' : State) → NoneOutside script s → Run script s takens s' → NoneOutside script s'
-run_inside script [] s s' none run = subst (λ z. NoneOutside script z) run none
-run_inside script (x ∷ xs) s s' none (mid, step, run) = run_inside script xs mid s' (none_after script s mid x none step) run
 
 module _ (script : Script) (trace : List Event) (places : List ℕ) (correct : CorrectReordering trace places)
     (i p : ℕ) (at_p : slice_get places i ≡ Some p) (e : Event) (here : slice_get trace p ≡ Some e) where

@@ -36,9 +36,9 @@ fn machine_along<'a>(
 
 /// Replays a finding of a recording: takes the kept events as steps of the script from the start.
 ///
-/// The recording is one of the script, and the finding one of the recording's trace. The machine after the kept events
-/// reaches the finding: of a race, both threads are about to make their accesses, each can step, and each still can, with
-/// the same next call, after the other has stepped. The only error is want of memory.
+/// The recording is one of the script, and the finding a race of the recording's trace, with its keep. The machine after
+/// the kept events reaches it: both threads are about to make their accesses, each can step, and each still can, with the
+/// same next call, after the other has stepped. The only error is want of memory.
 pub fn replay<'a>(
     alloc: Global,
     script: &'a Script,
