@@ -1,2 +1,3 @@
 pub mod Reports
 pub mod FindingLines
+pub mod ReachedLines

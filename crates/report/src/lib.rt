@@ -3,9 +3,11 @@
 
 mod findings;
 mod lines;
+mod reached;
 #[cfg(test)]
 mod tests;
 mod trace;
 
 pub use findings::write_report;
+pub use reached::{write_reached, write_reached_count};
 pub use trace::write_trace;

@@ -1,8 +1,9 @@
 // What is written of a small trace.
-ghost use Rattle.std.specs.Prelude.{◌≤◌, IfOk, length};
+ghost use Rattle.std.specs.Prelude.{◌≤◌, IfOk, IfSome, length};
+ghost use Rattle.std_text.specs.Writing.{AreNamed};
 ghost use Rattle.report.specs.Reports.{AreWithin};
 
-use crate::write_report;
+use crate::{write_reached_count, write_report, write_trace};
 use sp_base::{OutOfMemory, SureSink};
 use std::alloc::Global;
 use std::test::Fail;
@@ -10,7 +11,9 @@ use std_text::Reader;
 use trace_laws::{Deadlock, Finding, Findings, Keep, Names, Race, Trace};
 
 // The trace of a text, and its names.
-fn read(alloc: Global, text: &[u8]) -> Option<(Trace, Names)> {
+fn read(alloc: Global, text: &[u8]) -> Option<(Trace, Names)>
+    ensures { IfSome result (λ read. AreNamed read.1 read.0.events) }
+{
     let Ok(mut reader) = Reader::new(alloc) else {
         return None;
     };
@@ -37,6 +40,22 @@ fn deadlock_and_race(alloc: Global, trace: &Trace) -> Result<Findings, OutOfMemo
     };
     findings.push(Finding::Race(race, Keep::new(alloc, &[0, 12])?))?;
     Ok(findings)
+}
+
+#[test]
+fn locations_are_always_written(rt: HostRuntime) -> Result<(), Fail> {
+    let alloc = rt.alloc();
+    let text = b"T0|w(X)\nT1|acq(L)|7".as_slice();
+    let (trace, names) = read(alloc, text).ok_or("a trace")?;
+    let mut sink = SureSink::new(alloc);
+    assert!(rt; write_trace(alloc, &mut sink, &trace, &names).is_ok());
+    assert_eq!(rt; sink.text(), b"T0|w(X)|0\nT1|acq(L)|7\n".as_slice());
+    assert!(rt; write_reached_count(alloc, &mut sink, 12).is_ok());
+    assert_eq!(rt;
+        sink.text(),
+        b"T0|w(X)|0\nT1|acq(L)|7\nreached 12\n".as_slice()
+    );
+    Ok(())
 }
 
 #[test]
