@@ -82,7 +82,7 @@ partner {A} {B} R (x ∷ xs) (z ∷ ys) y h c = go (partner R xs ys y h.1) (cont
     go rest (inr k) = let r = rest k in (r.0, contains_tail x xs r.0 r.1, r.2)
 
 -- what two lists have in each position can be weakened
-zip_under : {A B : Type 0} (R S : A → B → Type 0) (xs : List A) (ys : List B) → ((x : A) (y : B) → Contains xs x → R x y → S x y) → AllZip R xs ys → AllZip S xs ys
+pub zip_under : {A B : Type 0} (R S : A → B → Type 0) (xs : List A) (ys : List B) → ((x : A) (y : B) → Contains xs x → R x y → S x y) → AllZip R xs ys → AllZip S xs ys
 zip_under R S [] [] f h = tt
 zip_under R S [] (y ∷ ys) f h = absurd h
 zip_under R S (x ∷ xs) [] f h = absurd h

@@ -11,3 +11,5 @@ pub mod Judges
 pub mod Least
 pub mod Counting
 pub mod NameLemmas
+pub mod Locations
+pub mod LocationsFound

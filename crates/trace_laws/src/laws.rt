@@ -1,4 +1,5 @@
-//! The laws that tie closed sets to reorderings, each proved as the contract of a function that does nothing.
+//! The laws that tie closed sets to reorderings, and that locations do not count, each proved as the contract of a
+//! function that does nothing.
 //!
 //! A set of places is closed where it holds every place that comes before a member in program order, the writer of
 //! each read in it, and the release of an acquire in it whenever a later acquire of the same lock is in it too. Closed
@@ -7,6 +8,7 @@
 
 ghost use Rattle.trace_laws.specs.Trace.{Lawful};
 ghost use Rattle.trace_laws.specs.Closed.{ClosedSetsAreReorderings, ReorderingsAreClosed, EnabledOutsideClosure, RacesOutsideClosure, NeededAreTheClosure, JudgesAgree, LeastDeadlockExists};
+ghost use Rattle.trace_laws.specs.Locations.{LocationsDoNotCount};
 
 use crate::Event;
 
@@ -46,4 +48,10 @@ pub fn judges_agree(trace: &[Event])
 pub fn least_deadlock_exists(trace: &[Event])
     requires { Lawful trace.now }
     ensures { LeastDeadlockExists trace.now }
+{}
+
+/// What is found in a trace does not depend on its locations: two traces whose events have the same threads and
+/// operations in the same order have the same races and deadlocks, each with the same keep.
+pub fn locations_do_not_count()
+    ensures { LocationsDoNotCount }
 {}
