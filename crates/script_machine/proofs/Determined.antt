@@ -3,7 +3,7 @@ use Rattle.std.proofs.Common.{◌≡◌, List, [], ◌∷◌, map, Some, refl, s
 use Rattle.script_machine.specs.Machine.{Script, State, Taken, Step, Run, after, brings, op_of}
 
 -- equal lists have equal parts
-parts : {X : Type 0} (x y : X) (xs ys : List X) → x ∷ xs ≡ y ∷ ys → (x ≡ y) × (xs ≡ ys)
+pub parts : {X : Type 0} (x y : X) (xs ys : List X) → x ∷ xs ≡ y ∷ ys → (x ≡ y) × (xs ≡ ys)
 parts x y xs ys h = (cc, cc)
 
 -- equal options have equal values

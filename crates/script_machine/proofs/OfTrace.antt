@@ -1,6 +1,7 @@
 -- Traces that are runs of a script, and the first place of one that is none.
-use Rattle.std.proofs.Common.{◌≡◌, ℕ, zero, suc, ◌≤◌, List, [], ◌∷◌, ◌++◌, length, map, take, slice_get, Some, refl, sym, ap, ◌∙◌, subst, arith}
-use Rattle.std.proofs.lemmas.List.{take-map}
+use Rattle.std.proofs.Common.{◌≡◌, ℕ, zero, suc, ◌+◌, ◌≤◌, List, [], ◌∷◌, ◌++◌, length, map, take, slice_get, Some, refl, sym, ap, ◌∙◌, subst, arith}
+use Rattle.std.proofs.lemmas.List.{take-map, take_more}
+use Rattle.std.proofs.lemmas.Option.{slice_get_within, get_or_from_slice_get}
 use Rattle.trace_laws.specs.Event.{Event}
 use Rattle.trace_laws.specs.Locations.{without_locations, DoTheSame}
 use Rattle.script_machine.specs.Machine.{Script, State, Taken, Step, Run, LegalRun, start, events, next_call}
@@ -9,12 +10,8 @@ use Rattle.script_machine.specs.Recorded.{Running, IsRun}
 use Rattle.script_machine.specs.OfTrace.{NoStepOf, IsFirstNoStep}
 use Rattle.script_machine.proofs.Sizes.{thread_inside, none_at_start}
 use Rattle.script_machine.proofs.Calls.{call_of_step}
-use Rattle.script_machine.proofs.Determined.{run_unique, step_unique}
+use Rattle.script_machine.proofs.Determined.{parts, run_unique, step_unique}
 use Rattle.script_machine.proofs.Runs.{run_inside}
-
--- equal lists have equal parts
-parts : {X : Type 0} (x y : X) (xs ys : List X) → x ∷ xs ≡ y ∷ ys → (x ≡ y) × (xs ≡ ys)
-parts x y xs ys h = (cc, cc)
 
 -- what does the same in two parts does the same in one
 pub both_parts : (a b c d : List Event) → DoTheSame a b → DoTheSame c d → DoTheSame (a ++ c) (b ++ d)
@@ -27,14 +24,12 @@ both_parts (x ∷ xs) (y ∷ ys) c d first second =
     (λ i. p.0 i ∷ rest i)
 
 -- the front of a list with the element behind it
-pub take_next : {X : Type 0} (xs : List X) (i : ℕ) (x : X) → slice_get xs i ≡ Some x → take (suc i) xs ≡ take i xs ++ x ∷ []
-take_next [] i x h = absurd (cc)
-take_next (y ∷ ys) zero x h = cc
-take_next (y ∷ ys) (suc i) x h = ap (λ zs. y ∷ zs) (take_next ys i x h)
+take_next : {X : Type 0} (xs : List X) (i : ℕ) (x : X) → slice_get xs i ≡ Some x → take (i + 1) xs ≡ take i xs ++ x ∷ []
+take_next xs i x at = take_more xs i x (slice_get_within xs i x at) ∙ ap (λ y. take i xs ++ y ∷ []) (get_or_from_slice_get xs i x x at)
 
 -- one more event that does the same
 pub same_push : (run more : List Event) (taken : Event) (trace : List Event) (place : ℕ) (event : Event) → DoTheSame run (take place trace) → slice_get trace place ≡ Some event
-    → more ≡ run ++ taken ∷ [] → DoTheSame (taken ∷ []) (event ∷ []) → DoTheSame more (take (suc place) trace)
+    → more ≡ run ++ taken ∷ [] → DoTheSame (taken ∷ []) (event ∷ []) → DoTheSame more (take (place + 1) trace)
 same_push run more taken trace place event before at grown one =
     ap without_locations grown ∙ both_parts run (take place trace) (taken ∷ []) (event ∷ []) before one ∙ ap without_locations (sym (take_next trace place event at))
 
