@@ -4,12 +4,12 @@ use Rattle.trace_laws.specs.Names.{NameLists}
 use Rattle.trace_laws.specs.Traces.{History}
 use Rattle.trace_laws.specs.declared.event.Op.{Op}
 use Rattle.trace_laws.specs.declared.event.Op.TheVariants.{Read, Write, Acquire, Release, Fork, Join}
-use Rattle.std_text.specs.Writing.{IsOperandNamed, trace_text}
+use Rattle.std_text.specs.Writing.{AreNamed, IsOperandNamed, trace_text}
 use Rattle.script_machine.specs.Machine.{Script, LegalRun, IsComplete, OpInRange}
 use Rattle.script_machine.specs.Lowest.{LegalLowestRun}
 use Rattle.script_machine.specs.Held.{meaning}
 use Rattle.script_machine.specs.Recorded.{Recorded, IsRecording, AreInRange}
-use Rattle.syncp.specs.Recorded.{AreNamed, IsRecordedText}
+use Rattle.syncp.specs.Recorded.{IsRecordedText}
 
 module _ (script : Script) (names : NameLists) (threads : length names.threads ≡ length script.bodies) (locks : length names.locks ≡ script.locks) (vars : length names.vars ≡ script.variables) where
   -- an operand in range has a name

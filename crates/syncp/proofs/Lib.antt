@@ -7,6 +7,5 @@ pub mod Gathering
 pub mod Options
 pub mod Readings
 pub mod Reporting
-pub mod TextNames
 pub mod Witnessing
 pub mod Showing

@@ -4,20 +4,14 @@ use Rattle.trace_laws.specs.Names.{NameLists}
 use Rattle.trace_laws.specs.Traces.{History}
 use Rattle.trace_laws.specs.Findings.{Found}
 use Rattle.syncp.specs.Predictions.{ArePredictions, count_of_findings}
-use Rattle.syncp.specs.Recorded.{AreNamed}
 use Rattle.sp_base.specs.Moves.{IsFront}
 use Rattle.syncp.specs.Modes.{IsFrontOf, IsPastFindings}
 use Rattle.syncp.specs.Outcome.{IsReadFrom}
 use Rattle.syncp.specs.Output.{history_of}
 use Rattle.syncp.specs.Tasks.{Witness}
 use Rattle.syncp.specs.Witnesses.{IsWitness, WritesWitness, LacksFinding}
-use Rattle.syncp.proofs.TextNames.{text_named}
 
 module _ (trace : History) (names : NameLists) (input : List ℕ) (is : IsReadFrom ⊥ (Ok (trace, names)) input) where
-  -- all that its events name has a name
-  pub read_named : AreNamed names trace.events
-  read_named = subst (λ (n : NameLists). AreNamed n trace.events) (sym is.3) (subst (λ (h : History). AreNamed is.0.reading.names h.events) (sym is.2) (text_named input is.0 is.1))
-
   -- the text of a witness is the output for the input
   pub shown : (number : ℕ) (text : List ℕ) → WritesWitness names trace number text → IsWitness input number text
   shown number text writes = (is.0, is.1, subst (λ (n : NameLists). WritesWitness n (history_of is.0) number text) is.3 (subst (λ (h : History). WritesWitness names h number text) is.2 writes))

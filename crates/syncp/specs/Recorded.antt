@@ -1,20 +1,15 @@
 -- What is recorded of a script.
-use Rattle.std.specs.Prelude.{◌≡◌, ◌<◌, ◌≤◌, ◌+◌, ℕ, List, Some, slice_get, length, take, ◌==◌}
+use Rattle.std.specs.Prelude.{◌≡◌, ◌<◌, ◌≤◌, ◌+◌, ℕ, List, length, take, ◌==◌}
 use Rattle.std.specs.List.{count_by}
 use Rattle.sp_base.specs.declared.limits.TheConstants.{MAX_INPUT}
 use Rattle.trace_laws.specs.Event.{Event}
-use Rattle.trace_laws.specs.Names.{NameLists}
 use Rattle.std_text.specs.Fields.{newline}
 use Rattle.std_text.specs.Refusal.{LineFault}
-use Rattle.std_text.specs.Writing.{IsNamed, trace_text}
+use Rattle.std_text.specs.Writing.{trace_text}
 use Rattle.std_text.specs.declared.fault.StdKind.TheVariants.{InputTooLong}
 use Rattle.script_machine.specs.Machine.{Script, State, LegalRun, IsComplete}
 use Rattle.script_machine.specs.Lowest.{LegalLowestRun}
 use Rattle.script_machine.specs.ScriptText.{Scripts}
-
--- all that the events name has a name
-abbrev pub AreNamed : NameLists → List Event → Type 0
-AreNamed names events = (i : ℕ) (e : Event) → slice_get events i ≡ Some e → IsNamed names e
 
 -- the events are a complete legal run of the script, each step of which is of the lowest thread that can step
 pub record IsLowestRecording (script : Script) (events : List Event) : Type 0 where

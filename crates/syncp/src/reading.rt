@@ -6,6 +6,7 @@ ghost use Rattle.sp_base.specs.Moves.{Took};
 ghost use Rattle.std_text.specs.Framing.{Progress, after, closed};
 ghost use Rattle.std_text.specs.Refusal.{IsHolderGiven, holder_name, refusal_of};
 ghost use Rattle.std_text.specs.Told.{IsHolderKnown};
+ghost use Rattle.std_text.specs.Writing.{AreNamed};
 ghost use Rattle.syncp.specs.Faults.{TellsFault};
 ghost use Rattle.syncp.specs.Outcome.{GoesOn, Ends, IsReadFrom};
 ghost use Rattle.syncp.specs.Output.{IsWithinLimit};
@@ -66,7 +67,8 @@ fn take_piece(alloc: Global, reader: &mut Reader, piece: &[u8]) -> Result<(), Fa
 
 // Takes the end of the text, where the reader has not failed.
 fn take_end(alloc: Global, mut reader: Reader) -> Result<(Trace, Names), Fault>
-    ensures { (p : Progress) → reader.read ≡ Ok p → Ends (closed p) result }
+    ensures read { (p : Progress) → reader.read ≡ Ok p → Ends (closed p) result }
+    ensures named { IfOk result (λ read. AreNamed read.1 read.0.events) }
 {
     if let Err(fault) = reader.close() {
         return Err(fault_with_holder(alloc, reader.names(), &fault));
@@ -74,10 +76,12 @@ fn take_end(alloc: Global, mut reader: Reader) -> Result<(Trace, Names), Fault>
     Ok(reader.finish())
 }
 
-/// Reads all that a source has, and no byte more than the limit of an input and one. A refused text is answered with the
-/// first fault that is known, and `Read` only where the source's count of faults rose.
+/// Reads all that a source has, and no byte more than the limit of an input and one, as a trace and names, which all that
+/// its events name has. A refused text is answered with the first fault that is known, and `Read` only where the source's
+/// count of faults rose.
 pub fn read_trace<S: Source>(alloc: Global, source: &mut S) -> Result<(Trace, Names), Fault>
     ensures read { Took (S.left source.old) (S.left source.new) (λ input. IsWithinLimit input × IsReadFrom (IsAtEnd (S.left source.new)) result input) }
+    ensures named { IfOk result (λ read. AreNamed read.1 read.0.events) }
     ensures ended { OnOk result (IsAtEnd (S.left source.new)) }
     ensures cause { IsErrOf result Fault.Read → Rose (S.faults source.old) (S.faults source.new) }
 {

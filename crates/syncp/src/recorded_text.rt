@@ -1,7 +1,7 @@
 // The text of a recorded trace.
 ghost use Rattle.std.specs.Prelude.{◌≡◌, IfOk};
-ghost use Rattle.std_text.specs.Writing.{trace_text};
-ghost use Rattle.syncp.specs.Recorded.{AreNamed, IsRecordedText};
+ghost use Rattle.std_text.specs.Writing.{AreNamed, trace_text};
+ghost use Rattle.syncp.specs.Recorded.{IsRecordedText};
 
 use script_machine::{Recording, Script};
 use sp_base::OutOfMemory;

@@ -1,8 +1,7 @@
 // The text of the witness of a finding.
 ghost use Rattle.std.specs.Prelude.{◌≡◌, ◌<◌, ◌≤◌, All, IfOk, length};
-ghost use Rattle.std_text.specs.Writing.{trace_text};
+ghost use Rattle.std_text.specs.Writing.{AreNamed, trace_text};
 ghost use Rattle.syncp.specs.Predictions.{ArePredictions, count_of_findings};
-ghost use Rattle.syncp.specs.Recorded.{AreNamed};
 ghost use Rattle.syncp.specs.Witnesses.{WritesWitness, events_at, target_of};
 
 use replayer::reorder;

@@ -3,7 +3,7 @@ use Rattle.std.specs.Io.KnownBytes.{Consumes, IsAtEnd}
 use Rattle.std.proofs.KnownBytes.{Appends-nil}
 use Rattle.syncp.specs.Tasks.{Witness}
 use Rattle.syncp.proofs.Ran.{nothing_written, reading_completes, fails_for_witness, witness_not_refused}
-use Rattle.syncp.proofs.Showing.{read_named, front_shown, lacking}
+use Rattle.syncp.proofs.Showing.{front_shown, lacking}
 use Rattle.syncp.specs.declared.outcome.Fault.TheVariants.{NoFinding}
 use Rattle.syncp.proofs.show.show.Goals as goal
 
@@ -29,11 +29,6 @@ returns-then-len-finding-clause-complete g c = λ all left std kept_source kept_
     let took = subst (λ o. Consumes o rest read.0) left read.1 in
     let past = lacking c.in-Ok.read.0 c.in-Ok.read.1 read.0 read.2.1 (IsAtEnd rest) c.in-Ok-find.findings number c.in-Ok-find.ensures (omega (arith, c.len.ensures, c.if-len-finding.true)) c.in-Ok.ensures.ended in
     absurd (witness_not_refused NoFinding number rest all read.0 took std past)
-
-pub witness_text-requires-clause-named : goal.witness_text-requires-clause-named
-witness_text-requires-clause-named g c =
-    let read = c.in-Ok.ensures.read in
-    read_named c.in-Ok.read.0 c.in-Ok.read.1 read.0 read.2.1
 
 pub returns-in-Err-Failed-clause-outcome : goal.returns-in-Err-Failed-clause-outcome
 returns-in-Err-Failed-clause-outcome g c =
