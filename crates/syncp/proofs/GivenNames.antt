@@ -1,15 +1,12 @@
 -- All that the events of a recording name has a name.
-use Rattle.std.proofs.Common.{◌≡◌, ℕ, List, length, slice_get, Some, sym, subst, arith}
+use Rattle.std.proofs.Common.{◌≡◌, length, slice_get, Some, sym, subst, arith}
 use Rattle.trace_laws.specs.Names.{NameLists}
 use Rattle.trace_laws.specs.Traces.{History}
 use Rattle.trace_laws.specs.declared.event.Op.{Op}
 use Rattle.trace_laws.specs.declared.event.Op.TheVariants.{Read, Write, Acquire, Release, Fork, Join}
-use Rattle.std_text.specs.Writing.{AreNamed, IsOperandNamed, trace_text}
-use Rattle.script_machine.specs.Machine.{Script, LegalRun, IsComplete, OpInRange}
-use Rattle.script_machine.specs.Lowest.{LegalLowestRun}
-use Rattle.script_machine.specs.Held.{meaning}
-use Rattle.script_machine.specs.Recorded.{Recorded, IsRecording, AreInRange}
-use Rattle.syncp.specs.Recorded.{IsRecordedText}
+use Rattle.std_text.specs.Writing.{AreNamed, IsOperandNamed}
+use Rattle.script_machine.specs.Machine.{Script, OpInRange}
+use Rattle.script_machine.specs.Recorded.{Recorded, AreInRange}
 
 module _ (script : Script) (names : NameLists) (threads : length names.threads ≡ length script.bodies) (locks : length names.locks ≡ script.locks) (vars : length names.vars ≡ script.variables) where
   -- an operand in range has a name
@@ -28,17 +25,3 @@ module _ (script : Script) (names : NameLists) (threads : length names.threads �
       let there : slice_get r.trace.events i ≡ Some e = subst (λ h. slice_get h.events i ≡ Some e) is at in
       let thread = within.threads i e there in
       record { thread = omega (arith, thread, threads); operand = operand_named e.op (within.operands i e there) }
-
--- the text of a recording
-pub text_of_recording : (script : Script) (names : NameLists) (r : Recorded) (trace : History) (text : List ℕ) → r.machine.script ≡ script → IsRecording r → trace ≡ r.trace → names ≡ script.names
-    → IsComplete script (meaning r.machine) → LegalLowestRun script r.trace.events (meaning r.machine) → text ≡ trace_text names trace.events → IsRecordedText script text
-text_of_recording script names r trace text same recording is named complete lowest written = (
-  r.trace.events,
-  record {
-    end = meaning r.machine;
-    legal = subst (λ x. LegalRun x r.trace.events (meaning r.machine)) same recording.legal;
-    lowest = lowest;
-    complete = complete;
-  },
-  rw (sym named, sym is) written,
-)

@@ -2,6 +2,7 @@ pub mod Came
 pub mod Ran
 pub mod Scanning
 pub mod GivenNames
+pub mod KeptLines
 pub mod Recordings
 pub mod Gathering
 pub mod Options

@@ -114,10 +114,10 @@ trace_not_refused fault.OutOfMemory new all input c std known = known
 
 -- a script within the limit is not refused
 pub script_not_refused : ExclusiveLaw → (f : Fault) (new : Option (List ℕ)) (all input : List ℕ) → Consumes (Some all) new input → IsAccepted Record all → IsRefusedIn Record (IsAtEnd new) f input → ⊥
-script_not_refused law (fault.Text f holder) new all input c std known = no_excess new all input c std.0 known.0.over
+script_not_refused law (fault.Text f holder) new all input c std known = no_excess new all input c std.1.few known.0.over
 script_not_refused law (fault.Script f) new all input c std known =
     let same = taken_all new all input c known.2 in
-    (law all std.1.0 std.1.1).1 f (subst (λ text. FirstFault text f) (sym same) known.1)
+    (law all std.0 std.1.scripts).1 f (subst (λ text. FirstFault text f) (sym same) known.1)
 script_not_refused law fault.NoFinding new all input c std known = known
 script_not_refused law fault.Read new all input c std known = known
 script_not_refused law fault.Write new all input c std known = known

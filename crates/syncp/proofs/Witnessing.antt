@@ -16,9 +16,10 @@ use Rattle.trace_laws.proofs.Places.{index_of, contains_at, within_from_thread, 
 use Rattle.trace_laws.proofs.Counting.{rising_unique}
 use Rattle.trace_laws.specs.Names.{NameLists}
 use Rattle.replayer.specs.Reorders.{FollowsKeep}
+use Rattle.replayer.specs.Replays.{along}
 use Rattle.std_text.specs.Writing.{trace_text}
 use Rattle.syncp.specs.Predictions.{ArePredictions, count_of_findings}
-use Rattle.syncp.specs.Witnesses.{Target, WritesWitness, IsNumbered, events_at, target_of, race_target, deadlock_target}
+use Rattle.syncp.specs.Witnesses.{Target, WritesWitness, IsNumbered, target_of, race_target, deadlock_target}
 use Rattle.syncp.proofs.Scanning.{no_deadlocks, race_at}
 
 -- the later places of races
@@ -106,7 +107,7 @@ kept_within events keep places kept k d less =
 
 -- the lines of the events that the keep of a finding counts are the text of its witness
 pub writes : (names : NameLists) (h : History) (found : Found) (number : ℕ) (f : Finding) (keep places text : List ℕ) → ArePredictions h found → 1 ≤ number → IsAt found (number - 1) f → keep ≡ (target_of f).keep
-    → AreKept h.events keep places → FollowsKeep h keep places → text ≡ trace_text names (events_at h.events places) → WritesWitness names h number text
+    → AreKept h.events keep places → FollowsKeep h keep places → text ≡ trace_text names (along h.events places) → WritesWitness names h number text
 writes names h found number f keep places text are least at same kept follows written =
     let stands = finding_stands h found (number - 1) f are at in
     record {

@@ -7,14 +7,14 @@ use Rattle.sp_base.specs.Moves.{IsFront}
 use Rattle.sp_base.specs.declared.limits.TheConstants.{MAX_INPUT}
 use Rattle.std_text.specs.Framing.{Progress}
 use Rattle.script_machine.specs.Machine.{Script as Program}
-use Rattle.script_machine.specs.ScriptText.{Scripts, FirstFault}
+use Rattle.script_machine.specs.ScriptText.{FirstFault}
 use Rattle.syncp.specs.declared.mode.Mode.{Mode}
 use Rattle.syncp.specs.declared.mode.Mode.TheVariants as mode
 use Rattle.syncp.specs.declared.outcome.Fault.{Fault}
 use Rattle.syncp.specs.declared.outcome.Fault.TheVariants.{Text, Script, NoFinding}
 use Rattle.syncp.specs.Faults.{refusal_with}
 use Rattle.syncp.specs.Output.{history_of, IsStd, IsKnownFault, HasNoFault, IsOutput}
-use Rattle.syncp.specs.Recorded.{IsTooLong, IsRecordOf}
+use Rattle.syncp.specs.Recorded.{IsTooLong, IsRecordOf, IsScriptOf}
 use Rattle.syncp.specs.Tasks.{Task, Predict, Record, Witness}
 use Rattle.syncp.specs.Witnesses.{IsWitness, HasFinding, LacksFinding}
 
@@ -30,7 +30,7 @@ mode_named word =
 -- more bytes than an input may have
 abbrev pub IsAccepted : Task → List ℕ → Type 0
 IsAccepted Predict input = (p : Progress) × IsStd input p
-IsAccepted Record input = (length input ≤ MAX_INPUT) × ((program : Program) × Scripts input program)
+IsAccepted Record input = (program : Program) × IsScriptOf input program
 IsAccepted (Witness number) input = (p : Progress) × IsStd input p × HasFinding (history_of p) number
 
 -- the output for an input, and whether it has a finding

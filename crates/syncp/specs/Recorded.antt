@@ -22,11 +22,15 @@ pub record IsLowestRecording (script : Script) (events : List Event) : Type 0 wh
 abbrev pub IsRecordedText : Script → List ℕ → Type 0
 IsRecordedText script text = (events : List Event) × IsLowestRecording script events × (text ≡ trace_text script.names events)
 
+-- the input is the text of the script, and has no more bytes than an input may have
+pub record IsScriptOf (input : List ℕ) (script : Script) : Type 0 where
+  pub few : length input ≤ MAX_INPUT
+  pub scripts : Scripts input script
+
 -- the text of such a run of the script that the input is
 pub record IsRecordOf (input text : List ℕ) : Type 0 where
-  pub few : length input ≤ MAX_INPUT
   pub script : Script
-  pub scripts : Scripts input script
+  pub is : IsScriptOf input script
   pub recorded : IsRecordedText script text
 
 -- how many newlines there are

@@ -1,6 +1,5 @@
 -- The witness of a finding: the least reordering that leads to it.
-use Rattle.std.specs.Prelude.{◌≡◌, ◌<◌, ◌≤◌, ◌-◌, ℕ, List, [], ◌∷◌, ◌++◌, map, Some, slice_get, filter_map}
-use Rattle.trace_laws.specs.Event.{Event}
+use Rattle.std.specs.Prelude.{◌≡◌, ◌<◌, ◌≤◌, ◌-◌, ℕ, List, [], ◌∷◌, ◌++◌, map, Some, slice_get}
 use Rattle.trace_laws.specs.Traces.{History}
 use Rattle.trace_laws.specs.Names.{NameLists}
 use Rattle.trace_laws.specs.Findings.{Found, FoundRace, FoundDeadlock}
@@ -8,6 +7,7 @@ use Rattle.trace_laws.specs.declared.finding.Finding.{Finding}
 use Rattle.trace_laws.specs.declared.finding.Finding.TheVariants.{Race, Deadlock}
 use Rattle.trace_laws.specs.Kept.{AreKept}
 use Rattle.replayer.specs.Reorders.{IsLeastReordering}
+use Rattle.replayer.specs.Replays.{along}
 use Rattle.std_text.specs.Framing.{Progress}
 use Rattle.std_text.specs.Writing.{trace_text}
 use Rattle.syncp.specs.Output.{history_of, IsStd}
@@ -39,10 +39,6 @@ targets found = map race_target found.races ++ map deadlock_target found.deadloc
 abbrev pub IsNumbered : Found → ℕ → Target → Type 0
 IsNumbered found number target = (1 ≤ number) × (slice_get (targets found) (number - 1) ≡ Some target)
 
--- the events at these places
-abbrev pub events_at : List Event → List ℕ → List Event
-events_at events places = filter_map (slice_get events) places
-
 -- The places are those that the target's keep counts, in the order of the trace. They are a sync-preserving correct
 -- reordering that leaves the target's places enabled, and each such reordering has all of them.
 pub record IsWitnessOf (h : History) (target : Target) (places : List ℕ) : Type 0 where
@@ -57,7 +53,7 @@ pub record WritesWitness (names : NameLists) (h : History) (number : ℕ) (text 
   pub numbered : IsNumbered found number target
   pub places : List ℕ
   pub witness : IsWitnessOf h target places
-  pub written : text ≡ trace_text names (events_at h.events places)
+  pub written : text ≡ trace_text names (along h.events places)
 
 -- the text is that of the witness of a finding of the trace that the input says
 abbrev pub IsWitness : List ℕ → ℕ → List ℕ → Type 0

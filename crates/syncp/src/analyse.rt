@@ -11,8 +11,8 @@ ghost use Rattle.syncp.specs.Tasks.{Predict};
 use crate::find::{FindFault, find};
 use crate::outcome::{Fault, Outcome};
 use crate::reading::read_trace;
-use crate::report::report;
-use sp_base::{Gate, MAX_SIZE, MAX_WORKERS, MIN_SIZE, Sink, Source, WriteFault, write_all};
+use report::write_report;
+use sp_base::{Gate, MAX_SIZE, MAX_WORKERS, MIN_SIZE, Sink, Source, WriteFault};
 use std::alloc::Global;
 use std::thread::Threads;
 
@@ -55,10 +55,8 @@ pub fn analyse<R: Threads + Sync, S: Source, K: Sink, G: Gate>(
         Ok(findings) => findings,
         Err(FindFault::OutOfMemory) => return Outcome::Refused(Fault::OutOfMemory),
     };
-    let Ok((text, found)) = report(alloc, &trace, &findings) else {
-        return Outcome::Refused(Fault::OutOfMemory);
-    };
-    match write_all(out, text.as_bytes()) {
+    let found = findings.len() > 0;
+    match write_report(alloc, out, &trace, &findings) {
         Ok(()) => Outcome::Done { found },
         Err(WriteFault::Failed) => Outcome::Refused(Fault::Write),
         Err(WriteFault::OutOfMemory) => Outcome::Refused(Fault::OutOfMemory),

@@ -11,8 +11,6 @@ mod reading;
 mod record_mode;
 #[cfg(test)]
 mod record_tests;
-mod recorded_text;
-mod report;
 mod run;
 mod show;
 mod status;

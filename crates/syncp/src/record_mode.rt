@@ -4,25 +4,24 @@ ghost use Rattle.std.specs.Io.KnownBytes.{IsAtEnd};
 ghost use Rattle.sp_base.specs.Causes.{Rose};
 ghost use Rattle.sp_base.specs.Moves.{Took, Gained};
 ghost use Rattle.sp_base.specs.declared.limits.TheConstants.{MAX_INPUT};
-ghost use Rattle.script_machine.specs.ScriptText.{Scripts};
 ghost use Rattle.syncp.specs.Modes.{IsAccepted};
 ghost use Rattle.syncp.specs.Outcome.{Explains, FailsToRead, IsDone};
 ghost use Rattle.syncp.specs.Output.{IsWithinLimit};
-ghost use Rattle.syncp.specs.Recorded.{IsRecordOf};
+ghost use Rattle.syncp.specs.Recorded.{IsScriptOf};
 ghost use Rattle.syncp.specs.Tasks.{Record};
 
 use crate::outcome::{Fault, Outcome};
-use crate::recorded_text::recorded_text;
 use crate::whole_text::whole_text;
+use report::write_trace;
 use script_machine::laws::exclusive_law;
-use script_machine::{Script, ScriptError};
-use sp_base::{Sink, Source, WriteFault, write_all};
+use script_machine::{Recording, Script, ScriptError};
+use sp_base::{Sink, Source, WriteFault};
 use std::alloc::Global;
 
 // The script of a text.
 fn script_of(alloc: Global, text: &[u8]) -> Result<Script, Fault>
     requires { length text.now ≤ MAX_INPUT }
-    ensures script { MatchResult result (λ script. Scripts text.now script) (λ fault. FailsToRead Record (Unit {0}) fault text.now) }
+    ensures script { MatchResult result (IsScriptOf text.now) (λ fault. FailsToRead Record (Unit {0}) fault text.now) }
     ensures read { IsErrOf result Fault.Read → ⊥ }
 {
     match Script::read(alloc, text) {
@@ -32,28 +31,15 @@ fn script_of(alloc: Global, text: &[u8]) -> Result<Script, Fault>
     }
 }
 
-// The text of what is recorded of a text.
-fn record_of(alloc: Global, text: &[u8]) -> Result<Vec<u8>, Fault>
-    requires { length text.now ≤ MAX_INPUT }
-    ensures recorded { MatchResult result (λ recorded. IsRecordOf text.now recorded.items) (λ fault. FailsToRead Record (Unit {0}) fault text.now) }
-    ensures read { IsErrOf result Fault.Read → ⊥ }
-{
-    let script = script_of(alloc, text)?;
-    let Ok(recorded) = recorded_text(alloc, &script) else {
-        return Err(Fault::OutOfMemory);
-    };
-    Ok(recorded)
-}
-
-// Reads the source to its end, and answers the text of what is recorded.
-fn record_source<S: Source>(alloc: Global, source: &mut S) -> Result<Vec<u8>, Fault>
+// Reads the source to its end, and answers the script.
+fn script_in<S: Source>(alloc: Global, source: &mut S) -> Result<Script, Fault>
     ensures read { Took (S.left source.old) (S.left source.new) (λ input. IsWithinLimit input ×
-        MatchResult result (λ recorded. IsRecordOf input recorded.items) (λ fault. FailsToRead Record (IsAtEnd (S.left source.new)) fault input)) }
+        MatchResult result (IsScriptOf input) (λ fault. FailsToRead Record (IsAtEnd (S.left source.new)) fault input)) }
     ensures ended { OnOk result (IsAtEnd (S.left source.new)) }
     ensures cause { IsErrOf result Fault.Read → Rose (S.faults source.old) (S.faults source.new) }
 {
     let text = whole_text(alloc, source)?;
-    record_of(alloc, &text)
+    script_of(alloc, &text)
 }
 
 /// Reads a script and writes the trace of the run that steps the lowest thread that can step, until none can.
@@ -77,11 +63,14 @@ pub fn record_alone<S: Source, K: Sink>(alloc: Global, source: &mut S, out: &mut
         IsDone result ⊎ (result ≡ Outcome.Refused Fault.OutOfMemory) }
 {
     exclusive_law();
-    let recorded = match record_source(alloc, source) {
-        Ok(recorded) => recorded,
+    let script = match script_in(alloc, source) {
+        Ok(script) => script,
         Err(fault) => return Outcome::Refused(fault),
     };
-    match write_all(out, &recorded) {
+    let Ok(recording) = Recording::alone(alloc, &script) else {
+        return Outcome::Refused(Fault::OutOfMemory);
+    };
+    match write_trace(alloc, out, recording.trace(), script.names()) {
         Ok(()) => Outcome::Done { found: false },
         Err(WriteFault::Failed) => Outcome::Refused(Fault::Write),
         Err(WriteFault::OutOfMemory) => Outcome::Refused(Fault::OutOfMemory),

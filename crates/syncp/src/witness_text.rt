@@ -1,8 +1,9 @@
 // The text of the witness of a finding.
 ghost use Rattle.std.specs.Prelude.{◌≡◌, ◌<◌, ◌≤◌, All, IfOk, length};
+ghost use Rattle.replayer.specs.Replays.{along};
 ghost use Rattle.std_text.specs.Writing.{AreNamed, trace_text};
 ghost use Rattle.syncp.specs.Predictions.{ArePredictions, count_of_findings};
-ghost use Rattle.syncp.specs.Witnesses.{WritesWitness, events_at, target_of};
+ghost use Rattle.syncp.specs.Witnesses.{WritesWitness, target_of};
 
 use replayer::reorder;
 use sp_base::OutOfMemory;
@@ -21,7 +22,7 @@ fn keep_of(finding: &Finding) -> &Keep
 }
 
 // The lines of the events at these places.
-#[tactic(auto, using(crate::proofs::Recordings::place_more))]
+#[tactic(auto, using(crate::proofs::KeptLines::place_more))]
 fn event_lines(
     alloc: Global,
     trace: &Trace,
@@ -30,7 +31,7 @@ fn event_lines(
 ) -> Result<Vec<u8>, OutOfMemory>
     requires named { AreNamed names.now trace.now.events }
     requires within { All (λ place. place < length trace.now.events) places.now }
-    ensures { IfOk result (λ text. text.items ≡ trace_text names.now (events_at trace.now.events places.now)) }
+    ensures { IfOk result (λ text. text.items ≡ trace_text names.now (along trace.now.events places.now)) }
 {
     let mut text = Vec::new(alloc);
     for place in places {

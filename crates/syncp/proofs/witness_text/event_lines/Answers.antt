@@ -1,7 +1,7 @@
 use Rattle.std.proofs.Common.{◌<◌, ◌++◌, length, ap, sym, ◌∙◌, arith}
 use Rattle.std.proofs.lemmas.Option.{slice_get-get_or}
 use Rattle.std_text.specs.Writing.{event_line}
-use Rattle.syncp.proofs.Recordings.{place_more}
+use Rattle.syncp.proofs.KeptLines.{place_more}
 use Rattle.syncp.proofs.witness_text.event_lines.Goals as goal
 
 pub loop-place-preserved : goal.loop-place-preserved

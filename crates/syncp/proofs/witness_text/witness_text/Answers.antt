@@ -1,7 +1,7 @@
 use Rattle.std.proofs.Common.{ap, ◌∙◌}
 use Rattle.std.proofs.lemmas.Result.{IfOk-weaker}
 use Rattle.std_text.specs.Writing.{trace_text}
-use Rattle.syncp.specs.Witnesses.{events_at}
+use Rattle.replayer.specs.Replays.{along}
 use Rattle.syncp.proofs.Witnessing.{kept_within, writes}
 use Rattle.syncp.proofs.witness_text.witness_text.Goals as goal
 
@@ -15,4 +15,4 @@ returns c =
     let places = c.in_ok-places.places.items in
     IfOk-weaker c.event_lines.result _ _ (λ text written.
     writes names trace c.args.findings.now c.args.number c.get.result.now c.keep_of-keep.result.now places text.items c.requires.predicted c.requires.least c.get.ensures c.keep_of-keep.ensures
-    c.in_ok-places.ensures.kept c.in_ok-places.ensures.least (written ∙ ap (λ ps. trace_text names (events_at trace.events ps)) c.deref.ensures.value)) c.event_lines.ensures
+    c.in_ok-places.ensures.kept c.in_ok-places.ensures.least (written ∙ ap (λ ps. trace_text names (along trace.events ps)) c.deref.ensures.value)) c.event_lines.ensures

@@ -1,7 +1,0 @@
-use Rattle.std.proofs.Common.{◌≡◌, take}
-use Rattle.std_text.specs.Writing.{trace_text}
-use Rattle.syncp.proofs.recorded_text.trace_lines.Given as goal
-
--- the lines so far
-abbrev pub invariant-loop-place : goal.invariant-loop-place
-invariant-loop-place l = l.text.items ≡ trace_text l.names (take l.place l.trace.events)
