@@ -13,7 +13,7 @@ use Rattle.std_text.specs.Refusal.{Refusal}
 use Rattle.std_text.specs.declared.fault.ReadFault.{ReadFault}
 use Rattle.std_text.specs.declared.fault.ReadFault.TheVariants as read
 use Rattle.syncp.specs.declared.outcome.Fault.{Fault}
-use Rattle.syncp.specs.declared.outcome.Fault.TheVariants.{Text, Script, NoFinding, Read, Write, OutOfMemory}
+use Rattle.syncp.specs.declared.outcome.Fault.TheVariants.{Text, Script, NotAStep, NoFinding, Read, Write, OutOfMemory}
 use Rattle.syncp.specs.Tasks.{Predict}
 use Rattle.syncp.specs.Outcome.{FailsToRead, GoesOn, Ends, IsReadFrom}
 use Rattle.syncp.specs.Output.{IsWithinLimit}
@@ -76,12 +76,14 @@ gives_at old new step p is reads = subst (λ r. ReadsFrom r old.names step new) 
 tells_refusal : (e : ReadFault) (f : Fault) (names : NameLists) (x : Result Progress Refusal) → Failed e names x → TellsFault names e f → TellsRefusal x f
 tells_refusal (read.Text e) (Text f holder) names x failed tells = failed.0 ∙ ap Err (sym tells)
 tells_refusal (read.Text e) (Script g) names x failed tells = absurd tells
+tells_refusal (read.Text e) (NotAStep place) names x failed tells = absurd tells
 tells_refusal (read.Text e) NoFinding names x failed tells = absurd tells
 tells_refusal (read.Text e) Read names x failed tells = absurd tells
 tells_refusal (read.Text e) Write names x failed tells = absurd tells
 tells_refusal (read.Text e) OutOfMemory names x failed tells = tt
 tells_refusal read.OutOfMemory (Text f holder) names x failed tells = absurd tells
 tells_refusal read.OutOfMemory (Script g) names x failed tells = absurd tells
+tells_refusal read.OutOfMemory (NotAStep place) names x failed tells = absurd tells
 tells_refusal read.OutOfMemory NoFinding names x failed tells = absurd tells
 tells_refusal read.OutOfMemory Read names x failed tells = absurd tells
 tells_refusal read.OutOfMemory Write names x failed tells = absurd tells
@@ -131,6 +133,7 @@ module _ (old now new : Option (List ℕ)) (before mid taken : ℕ) (told : Told
   pub refused_by : (f : Fault) (next : Told) (Ended : Type 0) → ((p : Progress) → told.read ≡ Ok p → GoesOn (after p piece) next (Err f)) → FailsToRead Predict Ended f (c.input ++ piece)
   refused_by (Text f holder) next Ended goes = inl (step_is ∙ goes c.at c.read)
   refused_by (Script g) next Ended goes = absurd (goes c.at c.read)
+  refused_by (NotAStep place) next Ended goes = absurd (goes c.at c.read)
   refused_by NoFinding next Ended goes = absurd (goes c.at c.read)
   refused_by Read next Ended goes = absurd (goes c.at c.read)
   refused_by Write next Ended goes = absurd (goes c.at c.read)
@@ -142,6 +145,7 @@ pub ended_at : (old now : Option (List ℕ)) (before mid taken : ℕ) (told : To
 ended_at old now before mid taken told c (Ok answer) Ended ended ends = let e = ends c.at c.read in (e.0, rw c.reads e.1, e.2, e.3)
 ended_at old now before mid taken told c (Err (Text f holder)) Ended ended ends = inr (ended, rw c.reads (ends c.at c.read))
 ended_at old now before mid taken told c (Err (Script g)) Ended ended ends = absurd (ends c.at c.read)
+ended_at old now before mid taken told c (Err (NotAStep place)) Ended ended ends = absurd (ends c.at c.read)
 ended_at old now before mid taken told c (Err NoFinding) Ended ended ends = absurd (ends c.at c.read)
 ended_at old now before mid taken told c (Err Read) Ended ended ends = absurd (ends c.at c.read)
 ended_at old now before mid taken told c (Err Write) Ended ended ends = absurd (ends c.at c.read)

@@ -1,13 +1,14 @@
 -- How far a source was read whose bytes are gathered.
-use Rattle.std.proofs.Common.{ℕ, ◌+◌, ◌≤◌, List, [], ◌++◌, length, arith, length-append}
+use Rattle.std.proofs.Common.{◌≡◌, ℕ, ◌+◌, ◌≤◌, inl, inr, List, [], ◌++◌, length, arith, length-append}
 use Rattle.std.specs.declared.option.Option.{Option}
 use Rattle.std.specs.Io.KnownBytes.{Consumes}
 use Rattle.std.proofs.KnownBytes.{Consumes-trans, Consumes-nil}
 use Rattle.sp_base.specs.declared.limits.TheConstants.{MAX_INPUT}
-use Rattle.syncp.specs.Tasks.{Record}
+use Rattle.syncp.specs.Tasks.{Record, Replay}
 use Rattle.syncp.specs.declared.outcome.Fault.{Fault}
-use Rattle.syncp.specs.declared.outcome.Fault.TheVariants.{Text, Script, NoFinding, Read, Write, OutOfMemory}
-use Rattle.syncp.specs.Outcome.{FailsToRead}
+use Rattle.syncp.specs.declared.outcome.Fault.TheVariants.{Text, Script, NotAStep, NoFinding, Read, Write, OutOfMemory}
+use Rattle.syncp.specs.Outcome.{FailsToRead, FailsToGather}
+use Rattle.syncp.specs.Replaying.{FailsToReplay, FailsToScript}
 
 -- the text is what the source gave so far
 pub record Gathered (old now : Option (List ℕ)) (before mid : ℕ) (text : List ℕ) : Type 0 where
@@ -28,11 +29,62 @@ gathered_more old now new before mid next room text piece g gave few all later =
   later = omega (arith, g.later, later);
 }
 
--- a fault while a script is read, where more is known of the source's end
-pub fails_ended : (E Ended : Type 0) (f : Fault) (input : List ℕ) → (E → Ended) → FailsToRead Record E f input → FailsToRead Record Ended f input
-fails_ended E Ended (Text f holder) input ended fails = fails
-fails_ended E Ended (Script f) input ended fails = (fails.0, fails.1, ended fails.2)
-fails_ended E Ended NoFinding input ended fails = fails
-fails_ended E Ended Read input ended fails = fails
-fails_ended E Ended Write input ended fails = fails
-fails_ended E Ended OutOfMemory input ended fails = fails
+-- a fault while a script is gathered is one of its mode
+pub gathering_fails : (Ended : Type 0) (f : Fault) (input : List ℕ) → FailsToGather f input → FailsToRead Record Ended f input
+gathering_fails Ended (Text f holder) input fails = fails
+gathering_fails Ended (Script f) input fails = absurd fails
+gathering_fails Ended (NotAStep place) input fails = absurd fails
+gathering_fails Ended NoFinding input fails = absurd fails
+gathering_fails Ended Read input fails = fails
+gathering_fails Ended Write input fails = absurd fails
+gathering_fails Ended OutOfMemory input fails = tt
+
+-- and so it is where a trace stands behind the script
+pub gathering_fails_to_replay : (Ended : Type 0) (f : Fault) (input : List ℕ) → FailsToGather f input → FailsToRead Replay Ended f input
+gathering_fails_to_replay Ended (Text f holder) input fails = inl fails
+gathering_fails_to_replay Ended (Script f) input fails = absurd fails
+gathering_fails_to_replay Ended (NotAStep place) input fails = absurd fails
+gathering_fails_to_replay Ended NoFinding input fails = absurd fails
+gathering_fails_to_replay Ended Read input fails = fails
+gathering_fails_to_replay Ended Write input fails = absurd fails
+gathering_fails_to_replay Ended OutOfMemory input fails = tt
+
+-- a fault of the script, of the trace or of a step is one of the mode, once all is gathered
+pub replay_fails : (Ended : Type 0) → Ended → (f : Fault) (input : List ℕ) → FailsToReplay f input → FailsToRead Replay Ended f input
+replay_fails Ended ended (Text f holder) input fails = inr (fails, ended)
+replay_fails Ended ended (Script f) input fails = (fails.0, fails.1, ended)
+replay_fails Ended ended (NotAStep place) input fails = (fails, ended)
+replay_fails Ended ended NoFinding input fails = absurd fails
+replay_fails Ended ended Read input fails = absurd fails
+replay_fails Ended ended Write input fails = absurd fails
+replay_fails Ended ended OutOfMemory input fails = tt
+
+-- it is no fault of the source
+pub replay_reads : (f : Fault) (input : List ℕ) → FailsToReplay f input → f ≡ Read → ⊥
+replay_reads (Text f holder) input fails is = cc
+replay_reads (Script f) input fails is = cc
+replay_reads (NotAStep place) input fails is = cc
+replay_reads NoFinding input fails is = fails
+replay_reads Read input fails is = fails
+replay_reads Write input fails is = fails
+replay_reads OutOfMemory input fails is = cc
+
+-- a fault of a script is one of its mode, once all is gathered
+pub script_fails : (Ended : Type 0) → Ended → (f : Fault) (text : List ℕ) → length text ≤ MAX_INPUT → FailsToScript f text → FailsToRead Record Ended f text
+script_fails Ended ended (Text f holder) text few fails = absurd fails
+script_fails Ended ended (Script f) text few fails = (few, fails, ended)
+script_fails Ended ended (NotAStep place) text few fails = absurd fails
+script_fails Ended ended NoFinding text few fails = absurd fails
+script_fails Ended ended Read text few fails = absurd fails
+script_fails Ended ended Write text few fails = absurd fails
+script_fails Ended ended OutOfMemory text few fails = tt
+
+-- it is no fault of the source
+pub script_reads : (f : Fault) (text : List ℕ) → FailsToScript f text → f ≡ Read → ⊥
+script_reads (Text f holder) text fails is = fails
+script_reads (Script f) text fails is = cc
+script_reads (NotAStep place) text fails is = fails
+script_reads NoFinding text fails is = fails
+script_reads Read text fails is = fails
+script_reads Write text fails is = fails
+script_reads OutOfMemory text fails is = cc

@@ -1,5 +1,5 @@
 -- All that the events of a recording name has a name.
-use Rattle.std.proofs.Common.{◌≡◌, length, slice_get, Some, sym, subst, arith}
+use Rattle.std.proofs.Common.{◌≡◌, length, slice_get, Some, subst, arith}
 use Rattle.trace_laws.specs.Names.{NameLists}
 use Rattle.trace_laws.specs.Traces.{History}
 use Rattle.trace_laws.specs.declared.event.Op.{Op}

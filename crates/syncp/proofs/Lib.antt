@@ -4,9 +4,14 @@ pub mod Scanning
 pub mod GivenNames
 pub mod KeptLines
 pub mod Recordings
+pub mod TraceBehind
 pub mod Gathering
+pub mod InputParts
 pub mod Options
 pub mod Readings
+pub mod Replaying
+pub mod InputReplays
+pub mod ReplayNames
 pub mod Reporting
 pub mod Witnessing
 pub mod Showing

@@ -7,7 +7,8 @@ use Rattle.sp_base.specs.declared.limits.TheConstants.{MAX_INPUT}
 use Rattle.std_text.specs.Refusal.{Refusal, ◌>>=◌}
 use Rattle.std_text.specs.Framing.{Progress, start, after, closed}
 use Rattle.std_text.proofs.TextPieces.{after_fault}
-use Rattle.script_machine.specs.Laws.{ExclusiveLaw}
+use Rattle.script_machine.specs.Laws.{ExclusiveLaw, OfLaw}
+use Rattle.script_machine.specs.OfTrace.{IsFirstNoStep}
 use Rattle.script_machine.specs.ScriptText.{FirstFault}
 use Rattle.syncp.specs.declared.words.Words.{Words}
 use Rattle.syncp.specs.declared.outcome.Fault.{Fault}
@@ -23,13 +24,16 @@ use Rattle.syncp.specs.Faults.{refusal_with, fault_line}
 use Rattle.syncp.specs.Outcome.{Explains, FailsToRead}
 use Rattle.syncp.specs.Outcome as done
 use Rattle.syncp.specs.Run.{Means, Leaves, TellsOf, TellsLine, IsDone}
-use Rattle.syncp.specs.Tasks.{Task, Predict, Record, Witness, task_of}
+use Rattle.syncp.specs.Inputs.{scripts_in}
+use Rattle.syncp.specs.Replayed.{SaysNoTrace, SaysNoRun, reading_behind}
+use Rattle.syncp.specs.Tasks.{Task, Predict, Record, Witness, Replay, task_of}
 use Rattle.syncp.specs.Statuses.{passes_limit, script_passes_limit, refusal_status, status_of}
 
 -- what was written before a refusal
 before_refusal : (task : Task) (Ended : Type 0) (f : Fault) (input text : List ℕ) → Explains task Ended (outcome.Refused f) input text → (text ≡ []) ⊎ (IsFrontOf task input text × Ended)
 before_refusal task Ended (fault.Text f holder) input text e = inl e.1
 before_refusal task Ended (fault.Script f) input text e = inl e.1
+before_refusal task Ended (fault.NotAStep place) input text e = inl e.1
 before_refusal task Ended fault.NoFinding input text e = inl e.1
 before_refusal task Ended fault.Read input text e = inl e.1
 before_refusal task Ended fault.Write input text e = inr e
@@ -39,6 +43,7 @@ before_refusal task Ended fault.OutOfMemory input text e = e
 pub nothing_written : (task : Task) (Ended : Type 0) (f : Fault) (input : List ℕ) → FailsToRead task Ended f input → Explains task Ended (outcome.Refused f) input []
 nothing_written task Ended (fault.Text f holder) input fails = (fails, refl)
 nothing_written task Ended (fault.Script f) input fails = (fails, refl)
+nothing_written task Ended (fault.NotAStep place) input fails = (fails, refl)
 nothing_written task Ended fault.NoFinding input fails = absurd fails
 nothing_written task Ended fault.Read input fails = (fails, refl)
 nothing_written task Ended fault.Write input fails = absurd fails
@@ -61,6 +66,7 @@ module _ (task : Task) (E R : Type 0) (input text line : List ℕ) where
   told_means : (f : Fault) (status : Status) → Explains task E (outcome.Refused f) input text → status ≡ status_of f → TellsLine R f line → Means task E R status input text line
   told_means (fault.Text f holder) status e is t = input_refused (fault.Text f holder) (passes_limit f.kind) status e t refl is
   told_means (fault.Script f) status e is t = input_refused (fault.Script f) (script_passes_limit f.kind) status e t refl is
+  told_means (fault.NotAStep place) status e is t = input_refused (fault.NotAStep place) false status e t refl is
   told_means fault.NoFinding status e is t = input_refused fault.NoFinding true status e t refl is
   told_means fault.Read status e is t = subst (λ s. Means task E R s input text line) (sym is) (e.0, e.1, t)
   told_means fault.Write status e is t = subst (λ s. Means task E R s input text line) (sym is) (e.0, e.1, t)
@@ -107,6 +113,7 @@ taken_all (Some rest) all input c ended = c ∙ ap (λ l. input ++ l) ended ∙ 
 pub trace_not_refused : (f : Fault) (new : Option (List ℕ)) (all input : List ℕ) → Consumes (Some all) new input → IsAccepted Predict all → IsRefusedIn Predict (IsAtEnd new) f input → ⊥
 trace_not_refused (fault.Text f holder) new all input c std known = no_fault new all input std.0 (refusal_with f holder) c std.1 known
 trace_not_refused (fault.Script f) new all input c std known = known
+trace_not_refused (fault.NotAStep place) new all input c std known = known
 trace_not_refused fault.NoFinding new all input c std known = known
 trace_not_refused fault.Read new all input c std known = known
 trace_not_refused fault.Write new all input c std known = known
@@ -118,6 +125,7 @@ script_not_refused law (fault.Text f holder) new all input c std known = no_exce
 script_not_refused law (fault.Script f) new all input c std known =
     let same = taken_all new all input c known.2 in
     (law all std.0 std.1.scripts).1 f (subst (λ text. FirstFault text f) (sym same) known.1)
+script_not_refused law (fault.NotAStep place) new all input c std known = known
 script_not_refused law fault.NoFinding new all input c std known = known
 script_not_refused law fault.Read new all input c std known = known
 script_not_refused law fault.Write new all input c std known = known
@@ -128,6 +136,7 @@ pub reading_completes : (task : Task) (Ended : Type 0) (input : List ℕ) (f : F
     → done.IsDone (outcome.Refused f) ⊎ (outcome.Refused f ≡ outcome.Refused fault.OutOfMemory)
 reading_completes task Ended input (fault.Text f holder) never fails read = absurd (never fails)
 reading_completes task Ended input (fault.Script f) never fails read = absurd (never fails)
+reading_completes task Ended input (fault.NotAStep place) never fails read = absurd (never fails)
 reading_completes task Ended input fault.NoFinding never fails read = absurd fails
 reading_completes task Ended input fault.Read never fails read = absurd (read refl)
 reading_completes task Ended input fault.Write never fails read = absurd fails
@@ -143,6 +152,7 @@ only_memory R f status line (inr t) (inr memory) = inr t.0
 pub fails_for_witness : (Ended : Type 0) (number : ℕ) (f : Fault) (input : List ℕ) → FailsToRead Predict Ended f input → FailsToRead (Witness number) Ended f input
 fails_for_witness Ended number (fault.Text f holder) input fails = fails
 fails_for_witness Ended number (fault.Script f) input fails = absurd fails
+fails_for_witness Ended number (fault.NotAStep place) input fails = absurd fails
 fails_for_witness Ended number fault.NoFinding input fails = absurd fails
 fails_for_witness Ended number fault.Read input fails = fails
 fails_for_witness Ended number fault.Write input fails = absurd fails
@@ -152,6 +162,7 @@ fails_for_witness Ended number fault.OutOfMemory input fails = fails
 pub witness_not_refused : (f : Fault) (number : ℕ) (new : Option (List ℕ)) (all input : List ℕ) → Consumes (Some all) new input → IsAccepted (Witness number) all → IsRefusedIn (Witness number) (IsAtEnd new) f input → ⊥
 witness_not_refused (fault.Text f holder) number new all input c std known = no_fault new all input std.0 (refusal_with f holder) c std.1 known
 witness_not_refused (fault.Script f) number new all input c std known = known
+witness_not_refused (fault.NotAStep place) number new all input c std known = known
 witness_not_refused fault.NoFinding number new all input c std known =
     let same : all ≡ input = taken_all new all input c known.3 in
     let there = known.1 in
@@ -163,3 +174,29 @@ witness_not_refused fault.NoFinding number new all input c std known =
 witness_not_refused fault.Read number new all input c std known = known
 witness_not_refused fault.Write number new all input c std known = known
 witness_not_refused fault.OutOfMemory number new all input c std known = known
+
+-- scripts with a run of them are not refused
+pub replay_not_refused : ExclusiveLaw → OfLaw → (f : Fault) (new : Option (List ℕ)) (all input : List ℕ) → Consumes (Some all) new input → IsAccepted Replay all → IsRefusedIn Replay (IsAtEnd new) f input → ⊥
+replay_not_refused law of (fault.Text f holder) new all input c run (inl known) = no_excess new all input c run.says.few known.0.over
+replay_not_refused law of (fault.Text f holder) new all input c run (inr known) =
+    let same : all ≡ input = taken_all new all input c known.1 in
+    let no = subst (λ text. SaysNoTrace text (refusal_with f holder)) (sym same) known.0 in
+    let script : run.script ≡ no.script = (law (scripts_in all) run.script run.says.scripts).0 no.script no.scripts in
+    let refused : reading_behind run.script all ≡ Err (refusal_with f holder) = subst (λ s. reading_behind s all ≡ Err (refusal_with f holder)) (sym script) no.refused in
+    let read = run.says.trace in
+    cc
+replay_not_refused law of (fault.Script f) new all input c run known =
+    let same = taken_all new all input c known.2 in
+    (law (scripts_in all) run.script run.says.scripts).1 f (subst (λ text. FirstFault (scripts_in text) f) (sym same) known.1)
+replay_not_refused law of (fault.NotAStep place) new all input c run known =
+    let same : all ≡ input = taken_all new all input c known.1 in
+    let no = subst (λ text. SaysNoRun text place) (sym same) known.0 in
+    let script : run.script ≡ no.script = (law (scripts_in all) run.script run.says.scripts).0 no.script no.says.scripts in
+    let read : reading_behind run.script all ≡ Ok no.p = subst (λ s. reading_behind s all ≡ Ok no.p) (sym script) no.says.trace in
+    let one : run.p ≡ no.p = (let here = run.says.trace in cc) in
+    let first = subst (λ s. IsFirstNoStep s no.p.reading.events place) (sym script) no.first in
+    (of run.script run.p.reading.events run.run run.end run.legal run.same).0 place (subst (λ p. IsFirstNoStep run.script p.reading.events place) (sym one) first)
+replay_not_refused law of fault.NoFinding new all input c run known = known
+replay_not_refused law of fault.Read new all input c run known = known
+replay_not_refused law of fault.Write new all input c run known = known
+replay_not_refused law of fault.OutOfMemory new all input c run known = known

@@ -10,3 +10,6 @@ pub mod Words
 pub mod Parsed
 pub mod Tasks
 pub mod Witnesses
+pub mod Inputs
+pub mod Replayed
+pub mod Replaying

@@ -1,27 +1,37 @@
 -- What an outcome says of what was read and written. Ended says that the source is at its end.
-use Rattle.std.specs.Prelude.{◌≡◌, ◌⊎◌, ℕ, List, [], Result, Ok, Err}
+use Rattle.std.specs.Prelude.{◌≡◌, ◌≤◌, ◌⊎◌, ℕ, List, [], length, Result, Ok, Err}
+use Rattle.sp_base.specs.declared.limits.TheConstants.{MAX_INPUT}
 use Rattle.trace_laws.specs.Traces.{History}
 use Rattle.trace_laws.specs.Names.{NameLists}
 use Rattle.std_text.specs.Framing.{Progress}
 use Rattle.std_text.specs.Refusal.{Refusal}
 use Rattle.std_text.specs.Told.{Told}
 use Rattle.syncp.specs.declared.outcome.Fault.{Fault}
-use Rattle.syncp.specs.declared.outcome.Fault.TheVariants.{Text, Script, NoFinding, Read, Write, OutOfMemory}
+use Rattle.syncp.specs.declared.outcome.Fault.TheVariants.{Text, Script, NotAStep, NoFinding, Read, Write, OutOfMemory}
 use Rattle.syncp.specs.declared.outcome.Outcome.{Outcome}
 use Rattle.syncp.specs.declared.outcome.Outcome.TheVariants.{Done, Refused}
 use Rattle.syncp.specs.Faults.{TellsRefusal}
 use Rattle.syncp.specs.Modes.{IsOutputOf, IsFrontOf, HasNoFaultIn, IsRefusedIn}
 use Rattle.syncp.specs.Output.{history_of, IsStd}
+use Rattle.syncp.specs.Recorded.{IsTooLong}
 use Rattle.syncp.specs.Tasks.{Task, Predict}
 
 -- a fault while the input was read
 abbrev pub FailsToRead : Task → Type 0 → Fault → List ℕ → Type 0
 FailsToRead task Ended (Text f holder) input = IsRefusedIn task Ended (Text f holder) input
 FailsToRead task Ended (Script f) input = IsRefusedIn task Ended (Script f) input
+FailsToRead task Ended (NotAStep place) input = IsRefusedIn task Ended (NotAStep place) input
 FailsToRead task Ended NoFinding input = ⊥
 FailsToRead task Ended Read input = HasNoFaultIn task input
 FailsToRead task Ended Write input = ⊥
 FailsToRead task Ended OutOfMemory input = Unit {0}
+
+-- a fault while all of a source was gathered
+abbrev pub FailsToGather : Fault → List ℕ → Type 0
+FailsToGather (Text f holder) input = IsTooLong input f × (holder ≡ [])
+FailsToGather Read input = length input ≤ MAX_INPUT
+FailsToGather OutOfMemory input = Unit {0}
+FailsToGather f input = ⊥
 
 -- where the text gives read, a reader went on to it, or the fault tells why the text is refused there
 abbrev pub GoesOn : Result Progress Refusal → Told → Result (Unit {0}) Fault → Type 0
@@ -43,6 +53,7 @@ abbrev pub Explains : Task → Type 0 → Outcome → List ℕ → List ℕ → 
 Explains task Ended (Done found) input text = IsOutputOf task input text found
 Explains task Ended (Refused (Text f holder)) input text = IsRefusedIn task Ended (Text f holder) input × (text ≡ [])
 Explains task Ended (Refused (Script f)) input text = IsRefusedIn task Ended (Script f) input × (text ≡ [])
+Explains task Ended (Refused (NotAStep place)) input text = IsRefusedIn task Ended (NotAStep place) input × (text ≡ [])
 Explains task Ended (Refused NoFinding) input text = IsRefusedIn task Ended NoFinding input × (text ≡ [])
 Explains task Ended (Refused Read) input text = HasNoFaultIn task input × (text ≡ [])
 Explains task Ended (Refused Write) input text = IsFrontOf task input text × Ended

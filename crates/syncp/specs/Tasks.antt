@@ -9,12 +9,14 @@ pub data Task : Type 0 where
   Predict : Task
   Record : Task
   Witness : (number : ℕ) → Task
+  Replay : Task
 
 -- the task of a mode and the number of a finding
 abbrev pub task_in : Mode → ℕ → Task
 task_in mode.Predict number = Predict
 task_in mode.Record number = Record
 task_in mode.Witness number = Witness number
+task_in mode.Replay number = Replay
 
 -- the task of words
 abbrev pub task_of : Words → Task

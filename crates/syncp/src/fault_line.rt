@@ -16,6 +16,7 @@ pub fn line_of(alloc: Global, fault: &Fault) -> Result<Vec<u8>, OutOfMemory>
     match fault {
         Fault::Text { fault, holder } => text_line(alloc, fault, holder),
         Fault::Script(fault) => script_line(alloc, fault),
+        Fault::NotAStep(place) => place_line(alloc, *place),
         Fault::NoFinding => owned(alloc, "fault 41 NoFinding\n"),
         Fault::Read => owned(alloc, "read fault\n"),
         Fault::Write => owned(alloc, "write fault\n"),
@@ -82,6 +83,16 @@ fn kind_name(kind: &StdKind) -> &'static str
         StdKind::ForkTwice => "15 ForkTwice",
         StdKind::SelfThread => "16 SelfThread",
         StdKind::AfterJoin => "17 AfterJoin",
+    }
+}
+
+// The line of a place that is no step.
+fn place_line(alloc: Global, place: u32) -> Result<Vec<u8>, OutOfMemory>
+    ensures { IfOk result (λ line. line.items ≡ fault_line (Fault.NotAStep place)) }
+{
+    match format!(in alloc; "place {place} fault 33 NotAStep\n") {
+        Ok(text) => owned(alloc, text.as_str()),
+        Err(_) => Err(OutOfMemory),
     }
 }
 

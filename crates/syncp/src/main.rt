@@ -1,17 +1,26 @@
-//! Predicts data races from a trace of lock events, shows how each is met, and records such traces from scripts.
+//! Predicts data races from a trace of lock events, shows how each is met, records such traces from scripts, and takes the
+//! scripts to each race.
 #![tactic(auto)]
 
 mod analyse;
+mod behind;
 mod command;
 mod fault_line;
 mod find;
 mod mode;
 mod outcome;
+mod parts;
+mod reach;
 mod reading;
 mod record_mode;
 #[cfg(test)]
 mod record_tests;
+#[cfg(test)]
+mod replay_tests;
+mod replay_text;
+mod replays;
 mod run;
+mod script_text;
 mod show;
 mod status;
 #[cfg(test)]

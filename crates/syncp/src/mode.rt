@@ -11,6 +11,8 @@ pub enum Mode {
     Record,
     /// It reads a trace and writes the witness of a finding.
     Witness,
+    /// It reads a script and a run of it, and writes the replays of what is found in the run.
+    Replay,
 }
 
 /// The mode of a word.
@@ -21,6 +23,7 @@ pub fn named(word: &str) -> Option<Mode>
         "predict" => Some(Mode::Predict),
         "record" => Some(Mode::Record),
         "witness" => Some(Mode::Witness),
+        "replay" => Some(Mode::Replay),
         _ => None,
     }
 }

@@ -59,6 +59,9 @@ pub enum Fault {
     /// The script is refused.
     #[error("the script is refused")]
     Script(ScriptFault),
+    /// The trace is no run of the script: the place is the first whose thread and operation are no step.
+    #[error("no step of the script at place {0}")]
+    NotAStep(u32),
     /// The trace has fewer findings.
     #[error("no finding of that number")]
     NoFinding,

@@ -53,8 +53,8 @@ fn fault_with_holder(alloc: Global, names: &Names, fault: &ReadFault) -> Fault
     }
 }
 
-// Takes a piece, where the reader has not failed.
-fn take_piece(alloc: Global, reader: &mut Reader, piece: &[u8]) -> Result<(), Fault>
+/// Takes a piece, where the reader has not failed.
+pub fn take_piece(alloc: Global, reader: &mut Reader, piece: &[u8]) -> Result<(), Fault>
     requires { reader.old.closed ≡ false }
     ensures read { (p : Progress) → reader.old.read ≡ Ok p → GoesOn (after p piece.now) reader.new result }
     ensures closed { reader.new.closed ≡ false }
@@ -65,8 +65,8 @@ fn take_piece(alloc: Global, reader: &mut Reader, piece: &[u8]) -> Result<(), Fa
     }
 }
 
-// Takes the end of the text, where the reader has not failed.
-fn take_end(alloc: Global, mut reader: Reader) -> Result<(Trace, Names), Fault>
+/// Takes the end of the text, where the reader has not failed.
+pub fn take_end(alloc: Global, mut reader: Reader) -> Result<(Trace, Names), Fault>
     ensures read { (p : Progress) → reader.read ≡ Ok p → Ends (closed p) result }
     ensures named { IfOk result (λ read. AreNamed read.1 read.0.events) }
 {

@@ -11,27 +11,16 @@ ghost use Rattle.syncp.specs.Recorded.{IsScriptOf};
 ghost use Rattle.syncp.specs.Tasks.{Record};
 
 use crate::outcome::{Fault, Outcome};
+use crate::script_text::script_of;
 use crate::whole_text::whole_text;
 use report::write_trace;
 use script_machine::laws::exclusive_law;
-use script_machine::{Recording, Script, ScriptError};
+use script_machine::{Recording, Script};
 use sp_base::{Sink, Source, WriteFault};
 use std::alloc::Global;
 
-// The script of a text.
-fn script_of(alloc: Global, text: &[u8]) -> Result<Script, Fault>
-    requires { length text.now ≤ MAX_INPUT }
-    ensures script { MatchResult result (IsScriptOf text.now) (λ fault. FailsToRead Record (Unit {0}) fault text.now) }
-    ensures read { IsErrOf result Fault.Read → ⊥ }
-{
-    match Script::read(alloc, text) {
-        Ok(script) => Ok(script),
-        Err(ScriptError::Fault(fault)) => Err(Fault::Script(fault)),
-        Err(ScriptError::OutOfMemory) => Err(Fault::OutOfMemory),
-    }
-}
-
 // Reads the source to its end, and answers the script.
+#[tactic(auto, using(crate::proofs::Gathering::gathering_fails, crate::proofs::Gathering::script_fails, crate::proofs::Gathering::script_reads))]
 fn script_in<S: Source>(alloc: Global, source: &mut S) -> Result<Script, Fault>
     ensures read { Took (S.left source.old) (S.left source.new) (λ input. IsWithinLimit input ×
         MatchResult result (IsScriptOf input) (λ fault. FailsToRead Record (IsAtEnd (S.left source.new)) fault input)) }

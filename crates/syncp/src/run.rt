@@ -16,6 +16,7 @@ use crate::analyse::analyse;
 use crate::fault_line::line_of;
 use crate::mode::Mode;
 use crate::outcome::{Fault, Outcome, Status};
+use crate::reach::reach;
 use crate::record_mode::record_alone;
 use crate::show::show;
 use crate::status::status_of;
@@ -27,11 +28,13 @@ use std::thread::Threads;
 
 /// Reads the source to its end and writes to `out` what the mode makes of it: `predict` reads a trace and writes the
 /// report, `witness` reads a trace and writes the events that lead to one of its findings, `record` reads a script and
-/// writes the trace that is recorded. The line of a fault goes to `err`.
+/// writes the trace that is recorded, `replay` reads a script and a run of it and writes which calls stand side by side at
+/// each finding. The line of a fault goes to `err`.
 ///
 /// The words are the program's name, the mode and options. Where they have no reading nothing is read or written to
 /// `out`, and `err` gains a text for the user, which is that of help where help was asked for. A refusal of the input
-/// comes at its first fault and before anything is written to `out`; in `record` the source is read to its end first.
+/// comes at its first fault and before anything is written to `out`; in `record` and `replay` the source is read to its end
+/// first.
 /// The line on `err` is tried once, and a fault there changes no status.
 pub fn run<R: Threads + Wait + Sync, S: Source, K: Sink, E: Sink, G: Gate>(
     rt: &R,
@@ -129,6 +132,7 @@ fn outcome_of<R: Threads + Sync, S: Source, K: Sink, G: Gate>(
     match reading.mode {
         Mode::Predict => analyse(rt, alloc, reading.size, reading.workers, source, out, gate),
         Mode::Record => record_alone(alloc, source, out),
+        Mode::Replay => reach(rt, alloc, reading.size, reading.workers, source, out, gate),
         Mode::Witness => show(
             rt,
             alloc,

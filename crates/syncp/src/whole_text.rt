@@ -4,18 +4,17 @@ ghost use Rattle.std.specs.Io.KnownBytes.{IsAtEnd};
 ghost use Rattle.sp_base.specs.Causes.{Rose};
 ghost use Rattle.sp_base.specs.Moves.{Took};
 ghost use Rattle.sp_base.specs.declared.limits.TheConstants.{MAX_INPUT};
-ghost use Rattle.syncp.specs.Outcome.{FailsToRead};
+ghost use Rattle.syncp.specs.Outcome.{FailsToGather};
 ghost use Rattle.syncp.specs.Output.{IsWithinLimit};
 ghost use Rattle.syncp.specs.Recorded.{newlines};
-ghost use Rattle.syncp.specs.Tasks.{Record};
 
 use crate::outcome::{Fault, HolderName};
 use sp_base::{MAX_INPUT, Source};
 use std::alloc::Global;
 use std_text::{StdFault, StdKind};
 
-// How many newlines there are.
-fn count_newlines(bytes: &[u8]) -> usize
+/// How many newlines there are.
+pub fn count_newlines(bytes: &[u8]) -> usize
     ensures count { result ≡ newlines bytes.now }
     ensures few { result ≤ length bytes.now }
 {
@@ -25,7 +24,7 @@ fn count_newlines(bytes: &[u8]) -> usize
 // The fault of a text whose last byte is one too many.
 fn too_long(alloc: Global, text: &[u8]) -> Fault
     requires { length text.now ≡ MAX_INPUT + 1 }
-    ensures fault { FailsToRead Record ⊥ result text.now }
+    ensures fault { FailsToGather result text.now }
     ensures read { result ≢ Fault.Read }
 {
     let line = count_newlines(&text[..MAX_INPUT as usize]) as u32 + 1;
@@ -42,7 +41,7 @@ fn too_long(alloc: Global, text: &[u8]) -> Fault
 /// comes only where the source's count of faults rose.
 pub fn whole_text<S: Source>(alloc: Global, source: &mut S) -> Result<Vec<u8>, Fault>
     ensures read { Took (S.left source.old) (S.left source.new) (λ input. IsWithinLimit input ×
-        MatchResult result (λ text. text.items ≡ input) (λ fault. FailsToRead Record (IsAtEnd (S.left source.new)) fault input)) }
+        MatchResult result (λ text. text.items ≡ input) (λ fault. FailsToGather fault input)) }
     ensures few { IfOk result (λ text. length text.items ≤ MAX_INPUT) }
     ensures ended { OnOk result (IsAtEnd (S.left source.new)) }
     ensures cause { IsErrOf result Fault.Read → Rose (S.faults source.old) (S.faults source.new) }

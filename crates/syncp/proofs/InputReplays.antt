@@ -1,0 +1,115 @@
+-- The replays of an input, from its script, its trace and its recording.
+use Rattle.std.proofs.Common.{◌≡◌, ◌≤◌, ℕ, ◌+◌, Bool, List, length, Result, Ok, Err, sym, ap, ◌∙◌, subst}
+use Rattle.std.specs.Prelude.{MatchResult}
+use Rattle.sp_base.specs.declared.limits.TheConstants.{MAX_INPUT}
+use Rattle.trace_laws.specs.Findings.{Found}
+use Rattle.trace_laws.specs.Locations.{LocationsDoNotCount}
+use Rattle.trace_laws.specs.Names.{NameLists}
+use Rattle.trace_laws.specs.Traces.{History}
+use Rattle.std_text.specs.Framing.{Progress, start_with, after, closed}
+use Rattle.std_text.specs.Refusal.{◌>>=◌}
+use Rattle.script_machine.specs.Held.{meaning}
+use Rattle.script_machine.specs.Machine.{Script, LegalRun}
+use Rattle.script_machine.specs.Recorded.{Recorded}
+use Rattle.script_machine.specs.ScriptText.{Scripts, FirstFault}
+use Rattle.syncp.specs.declared.outcome.Fault.{Fault}
+use Rattle.syncp.specs.declared.outcome.Fault.TheVariants as fault
+use Rattle.syncp.specs.Faults.{TellsRefusal}
+use Rattle.syncp.specs.Inputs.{scripts_in, trace_in, trace_line}
+use Rattle.syncp.specs.Predictions.{ArePredictions}
+use Rattle.syncp.specs.Recorded.{newlines}
+use Rattle.syncp.specs.Replayed.{Says, IsReplay, WritesReplays, reading_behind, run_of}
+use Rattle.syncp.specs.Replaying.{FailsToReplay, FailsToScript, Records, ReplaysRun}
+
+-- want of memory while a recording is replayed
+pub replay_refused : (script : Script) (run : History) (f : Fault) (input : List ℕ) → ReplaysRun script run (Err f) → FailsToReplay f input
+replay_refused script run (fault.Text f holder) input fails = absurd fails
+replay_refused script run (fault.Script f) input fails = absurd fails
+replay_refused script run (fault.NotAStep place) input fails = absurd fails
+replay_refused script run fault.NoFinding input fails = absurd fails
+replay_refused script run fault.Read input fails = absurd fails
+replay_refused script run fault.Write input fails = absurd fails
+replay_refused script run fault.OutOfMemory input fails = tt
+
+-- The parts of an input, and the number of the trace's first line.
+module _ (input scripts trace : List ℕ) (line : ℕ) (few : length input ≤ MAX_INPUT) (scripts_are : scripts ≡ scripts_in input) (trace_is : trace ≡ trace_in input) (line_is : line ≡ newlines scripts + 2) where
+  -- a refused script
+  pub script_refused : (f : Fault) → FailsToScript f scripts → FailsToReplay f input
+  script_refused (fault.Text f holder) fails = absurd fails
+  script_refused (fault.Script f) fails = (few, subst (λ text. FirstFault text f) scripts_are fails)
+  script_refused (fault.NotAStep place) fails = absurd fails
+  script_refused fault.NoFinding fails = absurd fails
+  script_refused fault.Read fails = absurd fails
+  script_refused fault.Write fails = absurd fails
+  script_refused fault.OutOfMemory fails = tt
+
+  module _ (script : Script) (said : Scripts scripts script) (names : NameLists) (names_are : names ≡ script.names) where
+    -- the script of the input
+    script_said : Scripts (scripts_in input) script
+    script_said = subst (λ text. Scripts text script) scripts_are said
+
+    -- the line of the input
+    line_there : line ≡ trace_line input
+    line_there = line_is ∙ ap (λ text. newlines text + 2) scripts_are
+
+    -- the reading of the input
+    behind : (after (start_with names line) trace >>= closed) ≡ reading_behind script input
+    behind = λ i. after (start_with (names_are i) (line_there i)) (trace_is i) >>= closed
+
+    -- a refused trace
+    pub trace_refused : (f : Fault) → TellsRefusal (after (start_with names line) trace >>= closed) f → FailsToReplay f input
+    trace_refused (fault.Text f holder) refused = record { few = few; script = script; scripts = script_said; refused = sym behind ∙ refused }
+    trace_refused (fault.Script f) refused = absurd refused
+    trace_refused (fault.NotAStep place) refused = absurd refused
+    trace_refused fault.NoFinding refused = absurd refused
+    trace_refused fault.Read refused = absurd refused
+    trace_refused fault.Write refused = absurd refused
+    trace_refused fault.OutOfMemory refused = tt
+
+    module _ (p : Progress) (reads : (after (start_with names line) trace >>= closed) ≡ Ok p) where
+      -- what the input says
+      says : Says input script p
+      says = record { few = few; scripts = script_said; trace = sym behind ∙ reads }
+
+      -- a trace that is no run
+      pub run_refused : (f : Fault) → Records script p.reading.events (Err f) → FailsToReplay f input
+      run_refused (fault.Text f holder) odd = absurd odd
+      run_refused (fault.Script f) odd = absurd odd
+      run_refused (fault.NotAStep place) odd = record { script = script; p = p; says = says; first = odd }
+      run_refused fault.NoFinding odd = absurd odd
+      run_refused fault.Read odd = absurd odd
+      run_refused fault.Write odd = absurd odd
+      run_refused fault.OutOfMemory odd = tt
+
+      module _ (law : LocationsDoNotCount) (r : Recorded) (records : Records script p.reading.events (Ok r)) where
+        -- the recording has the script's number of threads
+        is_run : r.trace ≡ run_of script r.trace.events
+        is_run = let count = records.1.threads ∙ ap (λ s. length s.bodies) records.0 in λ i. record { events = r.trace.events; threads = count i }
+
+        -- what is predicted of it is predicted of the trace
+        predicted : (all : Found) → ArePredictions r.trace all → ArePredictions (run_of script p.reading.events) all
+        unfolding ArePredictions
+        predicted all are = law r.trace.events p.reading.events (length script.bodies) 1 all records.2 (subst (λ h. ArePredictions h all) is_run are)
+
+        -- the replays of the recording
+        pub replayed : (text : List ℕ) (found : Bool) → ReplaysRun script r.trace (Ok (text, found)) → IsReplay input text found
+        replayed text found replays = record {
+          run = record {
+            script = script;
+            p = p;
+            says = says;
+            run = r.trace.events;
+            end = meaning r.machine;
+            legal = subst (λ s. LegalRun s r.trace.events (meaning r.machine)) records.0 records.1.legal;
+            same = records.2;
+          };
+          all = replays.0;
+          predicted = predicted replays.0 replays.1;
+          replays = subst (λ h. WritesReplays script h replays.0 text) is_run replays.2;
+          found_is = replays.3;
+        }
+
+        -- the replays, or want of memory
+        pub replays_end : (result : Result (List ℕ × Bool) Fault) → ReplaysRun script r.trace result → MatchResult result (λ x. IsReplay input x.0 x.1) (λ f. FailsToReplay f input)
+        replays_end (Ok x) replays = replayed x.0 x.1 replays
+        replays_end (Err f) replays = replay_refused script r.trace f input replays

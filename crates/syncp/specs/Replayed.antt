@@ -1,0 +1,91 @@
+-- An input of a script and a trace that is a run of it, and the replays of what is found in it.
+use Rattle.std.specs.Prelude.{◌≡◌, ◌≤◌, ◌+◌, ℕ, Bool, List, [], ◌∷◌, ◌++◌, length, nat_lt, Result, Ok, Err}
+use Rattle.std.specs.List.{AllZip}
+use Rattle.sp_base.specs.declared.limits.TheConstants.{MAX_INPUT}
+use Rattle.trace_laws.specs.Event.{Event}
+use Rattle.trace_laws.specs.Findings.{Found, FoundRace}
+use Rattle.trace_laws.specs.Locations.{DoTheSame}
+use Rattle.trace_laws.specs.Names.{NameLists}
+use Rattle.trace_laws.specs.Traces.{History}
+use Rattle.std_text.specs.Framing.{Progress, start_with, after, closed}
+use Rattle.std_text.specs.Refusal.{Refusal, ◌>>=◌}
+use Rattle.script_machine.specs.Machine.{Script, State, LegalRun}
+use Rattle.script_machine.specs.OfTrace.{IsFirstNoStep}
+use Rattle.script_machine.specs.ScriptText.{Scripts}
+use Rattle.replayer.specs.Replayed.{Replayed, IsReplayOf}
+use Rattle.report.specs.ReachedLines.{reached_line, closing_reached}
+use Rattle.syncp.specs.Inputs.{scripts_in, trace_in, trace_line}
+use Rattle.syncp.specs.Predictions.{ArePredictions, count_of_findings}
+
+-- what a whole text says, or why it is refused
+abbrev pub whole_reading : Progress → List ℕ → Result Progress Refusal
+whole_reading p text = after p text >>= closed
+
+-- what the trace of an input says behind its script, whose names have their numbers already
+abbrev pub reading_behind : Script → List ℕ → Result Progress Refusal
+reading_behind script input = whole_reading (start_with script.names (trace_line input)) (trace_in input)
+
+-- the input says a script and a trace
+pub record Says (input : List ℕ) (script : Script) (p : Progress) : Type 0 where
+  pub few : length input ≤ MAX_INPUT
+  pub scripts : Scripts (scripts_in input) script
+  pub trace : reading_behind script input ≡ Ok p
+
+-- the input says a script, behind which the trace is refused
+pub record SaysNoTrace (input : List ℕ) (refusal : Refusal) : Type 0 where
+  pub few : length input ≤ MAX_INPUT
+  pub script : Script
+  pub scripts : Scripts (scripts_in input) script
+  pub refused : reading_behind script input ≡ Err refusal
+
+-- the input says a script and a trace, and the place is the first of the trace that is no step of the script
+pub record SaysNoRun (input : List ℕ) (place : ℕ) : Type 0 where
+  pub script : Script
+  pub p : Progress
+  pub says : Says input script p
+  pub first : IsFirstNoStep script p.reading.events place
+
+-- the input says a script and a trace, whose threads and operations are those of a legal run of the script
+pub record SaysRun (input : List ℕ) : Type 0 where
+  pub script : Script
+  pub p : Progress
+  pub says : Says input script p
+  pub run : List Event
+  pub end : State
+  pub legal : LegalRun script run end
+  pub same : DoTheSame run p.reading.events
+
+-- a run with the number of threads of its script
+abbrev pub run_of : Script → List Event → History
+run_of script events = record { events = events; threads = length script.bodies }
+
+-- the lines of replays, which are numbered on
+abbrev pub reached_lines : NameLists → ℕ → List Replayed → List ℕ
+reached_lines names n [] = []
+reached_lines names n (replay ∷ replays) = reached_line names n replay ++ reached_lines names (n + 1) replays
+
+-- the lines of replays, which are numbered from 1, and the last line
+abbrev pub replays_text : NameLists → List Replayed → List ℕ
+replays_text names replays = reached_lines names 1 replays ++ closing_reached (length replays)
+
+-- one more replay, whose line stands behind the others
+pub record AddsReplay (script : Script) (run : History) (race : FoundRace) (number : ℕ) (old new : List ℕ) : Type 0 where
+  pub replay : Replayed
+  pub is : IsReplayOf script run race replay
+  pub line : new ≡ old ++ reached_line script.names number replay
+
+-- The text is that of the replays of all that is found in a run of the script: each takes the script along the kept events
+-- of its finding.
+pub record WritesReplays (script : Script) (run : History) (found : Found) (text : List ℕ) : Type 0 where
+  pub replays : List Replayed
+  pub replayed : AllZip (IsReplayOf script run) found.races replays
+  pub count : length replays ≡ count_of_findings found
+  pub written : text ≡ replays_text script.names replays
+
+-- the text is that of the replays of all that is found in the trace that the input says, and whether there is any
+pub record IsReplay (input text : List ℕ) (found : Bool) : Type 0 where
+  pub run : SaysRun input
+  pub all : Found
+  pub predicted : ArePredictions (run_of run.script run.p.reading.events) all
+  pub replays : WritesReplays run.script (run_of run.script run.run) all text
+  pub found_is : found ≡ nat_lt 0 (count_of_findings all)

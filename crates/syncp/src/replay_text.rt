@@ -1,0 +1,60 @@
+// The text of the replays of what is found.
+ghost use Rattle.std.specs.Prelude.{◌≡◌, ◌++◌, IfOk, OnOk};
+ghost use Rattle.trace_laws.specs.Stored.{race_of};
+ghost use Rattle.replayer.specs.Replayed.{IsFindingOf, IsReplayOf};
+ghost use Rattle.report.specs.ReachedLines.{reached_line};
+ghost use Rattle.syncp.specs.Predictions.{ArePredictions};
+ghost use Rattle.syncp.specs.Replayed.{AddsReplay, WritesReplays};
+
+use replayer::replay;
+use report::{write_reached, write_reached_count};
+use script_machine::{Recording, Script};
+use sp_base::{OutOfMemory, SureSink};
+use std::alloc::Global;
+use trace_laws::{Finding, Findings};
+
+// Appends the line of the replay of a finding.
+fn add_replay(
+    alloc: Global,
+    lines: &mut SureSink,
+    number: u32,
+    script: &Script,
+    recording: &Recording,
+    finding: &Finding,
+) -> Result<(), OutOfMemory>
+    requires script { recording.now.machine.script ≡ script.now }
+    requires finding { IsFindingOf recording.now.trace finding.now }
+    ensures { OnOk result (AddsReplay script.now recording.now.trace (race_of finding.now) number lines.old lines.new) }
+{
+    let reached = replay(alloc, script, recording, finding)?;
+    // The operands of its calls are in range, as the recording says.
+    let _ = recording.trace();
+    match write_reached(alloc, lines, number, &reached, script.names()) {
+        Ok(()) => Ok(()),
+        Err(_) => Err(OutOfMemory),
+    }
+}
+
+/// The text of the replays of all findings of a recording, in their order, with the last line.
+///
+/// The only error is want of memory.
+pub fn replay_text(
+    alloc: Global,
+    script: &Script,
+    recording: &Recording,
+    findings: &Findings,
+) -> Result<SureSink, OutOfMemory>
+    requires script { recording.now.machine.script ≡ script.now }
+    requires predicted { ArePredictions recording.now.trace findings.now }
+    ensures { IfOk result (λ text. WritesReplays script.now recording.now.trace findings.now text) }
+{
+    let mut lines = SureSink::new(alloc);
+    for number in 0..findings.len() {
+        let finding = findings.get(number);
+        add_replay(alloc, &mut lines, number + 1, script, recording, finding)?;
+    }
+    match write_reached_count(alloc, &mut lines, findings.len()) {
+        Ok(()) => Ok(lines),
+        Err(_) => Err(OutOfMemory),
+    }
+}
