@@ -1,0 +1,6 @@
+pub mod Tallies
+pub mod Views
+pub mod Rule
+pub mod Steps
+pub mod Rested
+pub mod Shown
