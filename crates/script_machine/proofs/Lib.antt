@@ -6,7 +6,6 @@ pub mod InRange
 pub mod Calls
 pub mod TakenLemmas
 pub mod Sizes
-pub mod Following
 pub mod Named
 pub mod LowestRuns
 pub mod Runs

@@ -5,7 +5,7 @@ use Rattle.trace_laws.specs.Event.{Event}
 use Rattle.trace_laws.specs.Trace.{Lawful, MayFollow}
 use Rattle.script_machine.specs.ScriptBounds.{IsScript}
 use Rattle.script_machine.specs.Machine.{Script, State, Taken, Step, StepOf, Run, LegalRun, CanStep, IsComplete, ForksOnce, start, size_of}
-use Rattle.script_machine.proofs.Following.{may_follow}
+use Rattle.trace_laws.proofs.Following.{follows_front}
 use Rattle.script_machine.proofs.RunsAreLawful.{runs_lawful}
 use Rattle.script_machine.proofs.Sizes.{run_size, thread_inside, none_after, none_at_start, NoneOutside}
 
@@ -42,7 +42,7 @@ next_accepted script es m s' t event sound legal step =
     let grown = legal_push script es m s' t event legal step in
     let few = legal_size script (es ++ event ∷ []) s' grown in (
       omega (arith, few, length-append es (event ∷ [])),
-      may_follow es event (legal_lawful script (es ++ event ∷ []) s' sound.once grown),
+      follows_front es [] event (legal_lawful script (es ++ event ∷ []) s' sound.once grown),
     )
 
 -- what holds of an answer that is Ok

@@ -16,6 +16,7 @@ mod of_trials;
 mod read;
 #[cfg(test)]
 mod read_trials;
+mod ready;
 mod recording;
 mod resolved;
 mod run;

@@ -77,8 +77,8 @@ impl<'a> Machine<'a> {
         })
     }
 
-    // How many threads there are.
-    pub(crate) fn threads(&self) -> u16
+    /// How many threads the script has, which are at most `MAX_THREADS`.
+    pub fn threads(&self) -> u16
         ensures value { result ≡ length self.now.script.bodies }
         ensures few { result ≤ MAX_THREADS }
     {

@@ -2,15 +2,14 @@
 
 ghost use Rattle.std.specs.Prelude.{◌≡◌, ◌↔◌, ℕ, ◌<◌, [], ◌∷◌, ◌++◌, length, Err, IfOk, IfSome, IfNone, IsTrue};
 ghost use Rattle.trace_laws.specs.Locations.{DoTheSame};
-ghost use Rattle.script_machine.specs.Machine.{LegalRun, CanStep, IsComplete};
+ghost use Rattle.script_machine.specs.Machine.{LegalRun, IsComplete};
 ghost use Rattle.script_machine.specs.Held.{meaning};
-ghost use Rattle.script_machine.specs.Lowest.{NoneBelow, LegalLowestRun};
+ghost use Rattle.script_machine.specs.Lowest.{LegalLowestRun};
 ghost use Rattle.script_machine.specs.Recorded.{AreInRange, IsRecording};
 ghost use Rattle.script_machine.specs.OfTrace.{NoStepOf, IsFirstNoStep};
 
-use crate::ids::thread_id;
 use crate::{Machine, Run, Script};
-use sp_base::{OutOfMemory as NoMemory, ThreadId};
+use sp_base::OutOfMemory as NoMemory;
 use std::alloc::Global;
 use std::marker::Model;
 use thiserror::Error;
@@ -86,7 +85,7 @@ impl<'a> Recording<'a> {
     pub fn complete(&self) -> bool
         ensures { IsTrue result ↔ IsComplete self.now.machine.script (meaning self.now.machine) }
     {
-        first_ready(&self.machine).is_none()
+        self.machine.first_ready().is_none()
     }
 
     /// Steps the lowest thread that can step, until none can. Its only error is want of memory.
@@ -97,7 +96,7 @@ impl<'a> Recording<'a> {
         ensures lowest { IfOk result (λ r. LegalLowestRun script.now r.trace.events (meaning r.machine)) }
     {
         let mut run = Run::new(alloc, script)?;
-        while let Some(thread) = first_ready(run.machine()) {
+        while let Some(thread) = run.machine().first_ready() {
             let _ = run.step(thread);
         }
         Ok(run.finish())
@@ -143,19 +142,4 @@ fn follow(run: &mut Run, event: &Event) -> Option<Event>
         return None;
     }
     run.step(thread)
-}
-
-// The lowest thread that can step.
-fn first_ready(machine: &Machine) -> Option<ThreadId>
-    ensures some { IfSome result (λ t. (t < length machine.now.script.bodies) × CanStep machine.now.script (meaning machine.now) t) }
-    ensures lowest { IfSome result (λ t. NoneBelow machine.now.script (meaning machine.now) t) }
-    ensures none { IfNone result ((t : ℕ) → t < length machine.now.script.bodies → CanStep machine.now.script (meaning machine.now) t → ⊥) }
-{
-    for number in 0..machine.threads() {
-        let thread = thread_id(number);
-        if machine.can_step(thread) {
-            return Some(thread);
-        }
-    }
-    None
 }

@@ -27,7 +27,7 @@ use Rattle.std_text.specs.Writing.{name_at, word_of, operand_name, IsOperandName
 use Rattle.std_text.specs.Rereading.{AreReadable, IsWritable, HasText, SaysSame, AreSame, WrittenIsRead}
 use Rattle.std_text.proofs.TextPieces.{after_append, after_none, after_byte, after_newline, no_last_line}
 use Rattle.std_text.proofs.EventLemmas.{by_law}
-use Rattle.std_text.proofs.Holders.{follows_front}
+use Rattle.trace_laws.proofs.Following.{follows_front}
 use Rattle.std_text.proofs.HolderLemmas.{tells_none, tells_push}
 use Rattle.std_text.proofs.LawLemmas.{computes_laws, none_broken}
 use Rattle.std_text.proofs.Spelling.{both, Says, says, plain, list_all-weaken, list_all-both, location_is, all_digits}
@@ -113,7 +113,7 @@ abbrev joined : List ℕ → List ℕ → List ℕ → List ℕ → List ℕ
 joined thread word operand place = thread ++ (bar ∷ (word ++ (opening ∷ (operand ++ closing ∷ bar ∷ place))))
 
 -- the written line, part by part
-line_parts : (thread word operand place : List ℕ) → (thread ++ codes "|" ++ word ++ codes "(" ++ operand ++ codes ")") ++ codes "|" ++ place ++ codes "\n" ≡ joined thread word operand place ++ 10 ∷ []
+line_parts : (thread word operand place : List ℕ) → (thread ++ codes "|" ++ (word ++ codes "(" ++ operand ++ codes ")")) ++ codes "|" ++ place ++ codes "\n" ≡ joined thread word operand place ++ 10 ∷ []
 line_parts thread word operand place = simp append_assoc refl
 
 -- its front, and its location

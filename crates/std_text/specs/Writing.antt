@@ -50,9 +50,13 @@ IsNamed names event = IsCallNamed names event.thread event.op
 abbrev pub AreNamed : NameLists → List Event → Type 0
 AreNamed names events = (i : ℕ) (e : Event) → slice_get events i ≡ Some e → IsNamed names e
 
+-- an operation: word(operand)
+abbrev pub op_text : NameLists → Op → List ℕ
+op_text names op = word_of op ++ codes "(" ++ operand_name names op ++ codes ")"
+
 -- the call of a thread: thread|word(operand)
 abbrev pub call_text : NameLists → ℕ → Op → List ℕ
-call_text names t op = name_at names.threads t ++ codes "|" ++ word_of op ++ codes "(" ++ operand_name names op ++ codes ")"
+call_text names t op = name_at names.threads t ++ codes "|" ++ op_text names op
 
 -- the line of an event: thread|word(operand)|location
 abbrev pub event_line : NameLists → Event → List ℕ

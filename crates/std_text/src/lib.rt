@@ -18,4 +18,4 @@ pub use framing::pieces_are_the_text;
 pub use law::computed_laws_are_the_laws;
 pub use reader::Reader;
 pub use rereading::written_text_is_read;
-pub use writing::{write_call, write_event};
+pub use writing::{write_call, write_event, write_op};

@@ -1,5 +1,5 @@
 // What one line means after the lines before it.
-ghost use Rattle.std.specs.Prelude.{◌≡◌, ◌<◌, ◌+◌, ◌^◌, ◌≤◌, IfOk, OnOk, OnErr, IsErrOf, true, false, Ok, Some, [], length};
+ghost use Rattle.std.specs.Prelude.{◌≡◌, ◌<◌, ◌+◌, ◌^◌, ◌≤◌, IfOk, OnOk, OnErr, IsErrOf, true, false, Ok, Some, length};
 ghost use Rattle.std_text.specs.Law.{kind_of};
 ghost use Rattle.std_text.specs.Meaning.{with_operand, fits, too_many, op_on, skipped, read_event, read_parts};
 ghost use Rattle.std_text.specs.Refusal.{NamesNoHolder};

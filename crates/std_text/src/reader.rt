@@ -38,7 +38,7 @@ fn same_fault(fault: &ReadFault) -> ReadFault
 }
 
 impl Reader {
-    ghost use Rattle.std.specs.Prelude.{◌<◌, ◌+◌, ◌^◌, []};
+    ghost use Rattle.std.specs.Prelude.{◌<◌, ◌+◌, ◌^◌};
     ghost use Rattle.sp_base.specs.declared.limits.TheConstants.{MAX_INPUT};
     ghost use Rattle.std_text.specs.Framing.{start, start_with};
 

@@ -5,7 +5,7 @@ ghost use Rattle.std_text.specs.Told.{IsHolderKnown};
 
 use crate::{
     ReadFault, Reader, StdKind, computed_laws_are_the_laws, pieces_are_the_text, write_call,
-    write_event, written_text_is_read,
+    write_event, write_op, written_text_is_read,
 };
 use std::alloc::{AllocError, Global};
 use std::test::Fail;
@@ -477,7 +477,8 @@ fn calls_and_lines_are_written(rt: HostRuntime) -> Result<(), Fail> {
     write_call(alloc, thread, &op, &names, &mut text)?;
     let loc = 7;
     write_event(alloc, &Event { thread, op, loc }, &names, &mut text)?;
-    assert_eq!(rt; text.as_slice(), b"T|acq(L)T|acq(L)|7\n".as_slice());
+    write_op(alloc, &op, &names, &mut text)?;
+    assert_eq!(rt; text.as_slice(), b"T|acq(L)T|acq(L)|7\nacq(L)".as_slice());
     Ok(())
 }
 

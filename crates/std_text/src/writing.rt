@@ -1,7 +1,7 @@
 // The calls and the lines of events.
 ghost use Rattle.std.specs.Prelude.{◌≡◌, ◌++◌, IfOk, OnOk, OnErr, codes, string_bytes};
 ghost use Rattle.std.specs.Fmt.{decimal};
-ghost use Rattle.std_text.specs.Writing.{word_of, operand_name, call_text, event_line, IsOperandNamed, IsCallNamed, IsNamed};
+ghost use Rattle.std_text.specs.Writing.{word_of, operand_name, op_text, call_text, event_line, IsOperandNamed, IsCallNamed, IsNamed};
 
 use sp_base::{OutOfMemory, ThreadId};
 use std::alloc::Global;
@@ -33,6 +33,36 @@ fn operand<'a>(op: &Op, names: &'a Names) -> &'a [u8]
     }
 }
 
+// The text of an operation.
+fn op_of(alloc: Global, op: &Op, names: &Names) -> Result<Vec<u8>, OutOfMemory>
+    requires { IsOperandNamed names.now op.now }
+    ensures { IfOk result (λ text. text.items ≡ op_text names.now op.now) }
+{
+    let mut text = word(op).as_bytes().to_vec(alloc)?;
+    text.extend_from_slice(b"(")?;
+    text.extend_from_slice(operand(op, names))?;
+    text.extend_from_slice(b")")?;
+    Ok(text)
+}
+
+/// Appends an operation, as it stands in a call behind the thread and the bar, to a text. What it is on has a name here.
+///
+/// Fails where memory runs out. The text then stays as it was.
+pub fn write_op(
+    alloc: Global,
+    op: &Op,
+    names: &Names,
+    text: &mut Vec<u8>,
+) -> Result<(), OutOfMemory>
+    requires { IsOperandNamed names.now op.now }
+    ensures ok { OnOk result (text.new.items ≡ text.old.items ++ op_text names.now op.now) }
+    ensures err { OnErr result (text.new.items ≡ text.old.items) }
+{
+    let added = op_of(alloc, op, names)?;
+    text.extend_from_slice(&added)?;
+    Ok(())
+}
+
 // The text of a thread's call.
 fn call_of(alloc: Global, thread: ThreadId, op: &Op, names: &Names) -> Result<Vec<u8>, OutOfMemory>
     requires { IsCallNamed names.now thread op.now }
@@ -40,10 +70,7 @@ fn call_of(alloc: Global, thread: ThreadId, op: &Op, names: &Names) -> Result<Ve
 {
     let mut call = names.thread_name(thread).to_vec(alloc)?;
     call.extend_from_slice(b"|")?;
-    call.extend_from_slice(word(op).as_bytes())?;
-    call.extend_from_slice(b"(")?;
-    call.extend_from_slice(operand(op, names))?;
-    call.extend_from_slice(b")")?;
+    write_op(alloc, op, names, &mut call)?;
     Ok(call)
 }
 

@@ -4,7 +4,7 @@ ghost use Rattle.std.specs.Io.KnownBytes.{IsAtEnd};
 ghost use Rattle.sp_base.specs.Causes.{Rose};
 ghost use Rattle.sp_base.specs.Moves.{Took};
 ghost use Rattle.std_text.specs.Framing.{Progress, after, closed};
-ghost use Rattle.std_text.specs.Refusal.{IsHolderGiven, holder_name, refusal_of};
+ghost use Rattle.std_text.specs.Refusal.{IsHolderGiven, holder_name};
 ghost use Rattle.std_text.specs.Told.{IsHolderKnown};
 ghost use Rattle.std_text.specs.Writing.{AreNamed};
 ghost use Rattle.syncp.specs.Faults.{TellsFault};

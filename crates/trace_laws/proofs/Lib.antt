@@ -1,4 +1,5 @@
 pub mod Places
+pub mod Following
 pub mod ClosedSets
 pub mod Enabling
 pub mod Tables

@@ -1,11 +1,11 @@
 use Rattle.std.proofs.Common.{below_more, subst, sym, arith}
 use Rattle.script_machine.specs.Machine.{CanStep}
 use Rattle.script_machine.specs.Held.{meaning}
-use Rattle.script_machine.proofs.recording.first_ready.Goals as goal
+use Rattle.script_machine.proofs.machine.Machine.first_ready.Goals as goal
 
 pub loop-number-preserved : goal.loop-number-preserved
 loop-number-preserved c = below_more _ _ c.loop-number.invariant (λ can. (
-    let own = subst (CanStep c.args.machine.now.script (meaning c.args.machine.now)) (sym c.thread_id-thread.ensures) can in
+    let own = subst (CanStep c.args.self.now.script (meaning c.args.self.now)) (sym c.thread_id-thread.ensures) can in
     let no' = c.if-can_step.ensures.1 own in
     cc))
 
