@@ -1,0 +1,4 @@
+pub mod Boards
+pub mod BoardLists
+pub mod Called
+pub mod Passes
