@@ -1,1 +1,2 @@
 pub mod MoreLines
+pub mod MoreEnds

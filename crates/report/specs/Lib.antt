@@ -1,3 +1,4 @@
 pub mod Reports
 pub mod FindingLines
 pub mod ReachedLines
+pub mod EndLines

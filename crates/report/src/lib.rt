@@ -1,6 +1,9 @@
 //! The texts of results, each written to a sink.
 #![tactic(auto)]
 
+mod ends;
+#[cfg(test)]
+mod ends_tests;
 mod findings;
 mod lines;
 mod reached;
@@ -8,6 +11,7 @@ mod reached;
 mod tests;
 mod trace;
 
+pub use ends::write_ends;
 pub use findings::write_report;
 pub use reached::{write_reached, write_reached_count};
 pub use trace::write_trace;

@@ -1,0 +1,86 @@
+// The lines of threads of each kind.
+ghost use Rattle.std.specs.Prelude.{◌<◌, ◌^◌, IfSome, IsTrue, length};
+ghost use Rattle.script_machine.specs.Held.{meaning};
+ghost use Rattle.script_machine.specs.Machine.{next_call};
+ghost use Rattle.std_text.specs.Writing.{IsOperandNamed};
+ghost use Rattle.report.specs.EndLines.{AreEndsNamed};
+
+use crate::write_ends;
+use script_machine::{Machine, Script};
+use sp_base::{SureSink, ThreadId};
+use std::alloc::Global;
+use std::test::Fail;
+use trace_laws::{Names, Op};
+
+// Whether what the operation is on has a name.
+fn is_operand_named(op: &Op, names: &Names) -> bool
+    ensures { IsTrue result → IsOperandNamed names.now op.now }
+{
+    match op {
+        Op::Read(var) | Op::Write(var) => var.value() < names.vars(),
+        Op::Acquire(lock) | Op::Release(lock) => lock.value() < names.locks(),
+        Op::Fork(thread) | Op::Join(thread) => thread.value() < names.threads(),
+    }
+}
+
+// Whether what the next call of the thread is on has a name.
+fn is_next_named(machine: &Machine<'_>, thread: ThreadId, names: &Names) -> bool
+    requires { thread < length machine.now.script.bodies }
+    ensures { IsTrue result → IfSome (next_call machine.now.script (meaning machine.now) thread) (IsOperandNamed names.now) }
+{
+    match machine.next_op(thread) {
+        Some(op) => is_operand_named(&op, names),
+        None => true,
+    }
+}
+
+// Whether the threads, and what their next calls are on, have names.
+fn are_ends_named(machine: &Machine<'_>, names: &Names) -> bool
+    ensures { IsTrue result → AreEndsNamed names.now machine.now.script (meaning machine.now) }
+{
+    if names.threads() < machine.threads() {
+        return false;
+    }
+    for number in 0..machine.threads() {
+        let Some(thread) = ThreadId::new(number) else {
+            return false;
+        };
+        if !is_next_named(machine, thread, names) {
+            return false;
+        }
+    }
+    true
+}
+
+// Whether these are the lines after the threads made the steps, one after the other.
+fn ends_with(alloc: Global, script: &[u8], steps: &[u16], lines: &[u8]) -> Option<bool>
+    requires { length script.now < 2 ^ 32 }
+{
+    let script = Script::read(alloc, script).ok()?;
+    let mut machine = Machine::new(alloc, &script).ok()?;
+    for number in steps {
+        let thread = ThreadId::new(*number)?;
+        if thread.value() >= machine.threads() {
+            return None;
+        }
+        machine.step(thread)?;
+    }
+    if !are_ends_named(&machine, script.names()) {
+        return None;
+    }
+    let mut sink = SureSink::new(alloc);
+    write_ends(alloc, &mut sink, &machine, script.names()).ok()?;
+    Some(sink.text() == lines)
+}
+
+#[test]
+fn each_thread_has_a_line(rt: HostRuntime) -> Result<(), Fail> {
+    let alloc = rt.alloc();
+    let script =
+        b"thread T0\nlock A\nlock B\nthread T1\nlock B\nlock A\nthread T2\nwrite X 1\nthread T3\nlock A\nfork T4\nthread T4\nread X\n".as_slice();
+    let lines =
+        b"blocked T0 at acq(B)\nblocked T1 at acq(A)\nend T2\nblocked T3 at acq(A)\nwaiting T4\n".as_slice();
+    assert_eq!(rt; ends_with(alloc, script, &[0, 1, 2], lines), Some(true));
+    assert_eq!(rt; ends_with(alloc, b"# none\n", &[], b""), Some(true));
+    Ok(())
+}
