@@ -11,7 +11,7 @@ use Rattle.script_machine.proofs.Sizes.{thread_inside, none_at_start}
 use Rattle.script_machine.proofs.Runs.{run_inside}
 use Rattle.replayer.specs.Reorders.{FollowsKeep}
 use Rattle.replayer.specs.Replays.{along, Ready, ReplaysTo, RaceReached}
-use Rattle.replayer.specs.Replayed.{IsRaceOf, IsRunningIn, IsReplayOf, ReachesRace}
+use Rattle.replayer.specs.Replayed.{IsRaceOf, IsRunningIn, IsRaceReplay, ReachesRace}
 use Rattle.replayer.proofs.Reaching.{race_law}
 
 -- the kept places leave the race enabled
@@ -95,5 +95,5 @@ threads_are script h trace found s there same a b at_a at_b =
 
 -- what the replay leaves
 pub is_replay : (script : Script) (h : History) (found : FoundRace) (m : Held) (threads : List ℕ) → m.script ≡ script → (there : ReachesRace script h found (meaning m))
-    → there.reached.first.thread ∷ there.reached.second.thread ∷ [] ≡ threads → IsReplayOf script h found (record { machine = m; threads = threads })
+    → there.reached.first.thread ∷ there.reached.second.thread ∷ [] ≡ threads → IsRaceReplay script h found (record { machine = m; threads = threads })
 is_replay script h found m threads same there are = record { same_script = same; reaches = there; threads = sym are }

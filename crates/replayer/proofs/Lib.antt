@@ -5,6 +5,9 @@ pub mod Along
 pub mod Replaying
 pub mod Ordering
 pub mod Reaching
+pub mod HeldAfter
+pub mod Stuck
 pub mod KeptSteps
 pub mod KeptRaces
+pub mod KeptDeadlocks
 pub mod ThreeWrites

@@ -34,7 +34,7 @@ can_step script s t op next can =
     )
 
 -- the step of one thread leaves the next call of another
-next_stays : (script : Script) (s s' : State) (taken : Taken) → Step script s taken s' → (t : ℕ) (op : Op)
+pub next_stays : (script : Script) (s s' : State) (taken : Taken) → Step script s taken s' → (t : ℕ) (op : Op)
     → (taken.event.thread ≡ t → ⊥) → NextCall script s t op → NextCall script s' t op
 next_stays script s s' taken step t op other next = record {
   line = next.line;
@@ -69,7 +69,7 @@ access_of trace e x event here access =
     )
 
 -- a place that is left enabled, with its event
-enabled_after : (trace : List Event) (places : List ℕ) (e : ℕ) (event : Event) → slice_get trace e ≡ Some event → Enabled trace places e → EnabledAfter trace places e event
+pub enabled_after : (trace : List Event) (places : List ℕ) (e : ℕ) (event : Event) → slice_get trace e ≡ Some event → Enabled trace places e → EnabledAfter trace places e event
 enabled_after trace places e event here enabled = record {
   here = here;
   open_still = enabled.absent;
@@ -80,7 +80,7 @@ enabled_after trace places e event here enabled = record {
 pub replay_law : (script : Script) (run : List Taken) (end : State) (places : List ℕ) → Run script (start script) run end
     → CorrectReordering (events run) places → (s : State) × Run script (start script) (along run places) s
 replay_law script run end places runs correct =
-    let (s, along_run, next) = replay_along script run end places runs (bridge (events run) places correct) in
+    let (s, along_run, leaves) = replay_along script run end places runs (bridge (events run) places correct) in
     (s, along_run)
 
 -- the first of two picks
@@ -96,7 +96,7 @@ pub race_law : (script : Script) (run : List Taken) (end s : State) (places : Li
     → Conflict (events run) e1 e2 → LeavesEnabled (events run) places (e1 ∷ e2 ∷ []) → Run script (start script) (along run places) s
     → RaceReached script (events run) s e1 e2
 race_law script run end s places e1 e2 runs conflict leaves replayed =
-    let (z, along_run, next) = replay_along script run end places runs (bridge (events run) places leaves.correct) in
+    let (z, along_run, left) = replay_along script run end places runs (bridge (events run) places leaves.correct) in
     let same : z ≡ s = (run_unique script (along run places) (along run places) (start script) (start script) z s refl along_run replayed refl).1 in
     let one = leaves.enabled e1 (first_pick e1 e2) in
     let two = leaves.enabled e2 (second_pick e1 e2) in
@@ -104,8 +104,8 @@ race_law script run end s places e1 e2 runs conflict leaves replayed =
     let (second, at_second) = get_in (events run) e2 two.within in
     let apart : first.thread ≡ second.thread → ⊥ =
     λ e. conflict.apart (thread_from_event (events run) e1 first at_first ∙ ap Some e ∙ sym (thread_from_event (events run) e2 second at_second)) in
-    let next_first = subst (λ w. NextCall script w first.thread first.op) same (next e1 first (enabled_after (events run) places e1 first at_first one)) in
-    let next_second = subst (λ w. NextCall script w second.thread second.op) same (next e2 second (enabled_after (events run) places e2 second at_second two)) in
+    let next_first = subst (λ w. NextCall script w first.thread first.op) same (left.next e1 first (enabled_after (events run) places e1 first at_first one)) in
+    let next_second = subst (λ w. NextCall script w second.thread second.op) same (left.next e2 second (enabled_after (events run) places e2 second at_second two)) in
     record {
       first = first;
       second = second;

@@ -273,11 +273,17 @@ module _ (script : Script) (run : List Taken) (at : ℕ → State) (first : at 0
       let (s', runs, kept') = replay (done ++ p ∷ []) rest one.0 one.2 (λ old q more e. follows old q more (sym joined ∙ e)) in
       (s', rw here (one.0, one.1, runs), subst (λ xs. Kept run at xs s') joined kept')
 
--- the whole list, and the next call of each event that it leaves enabled
+-- What the places leave: who owns each lock, and of each event that they leave enabled the next call of its thread, and
+-- which places of that thread are done.
+pub record Leaves (script : Script) (run : List Taken) (places : List ℕ) (s : State) : Type 0 where
+  pub owner : (l : ℕ) → s.owner l ≡ holder l (along (events run) places)
+  pub next : (p : ℕ) (event : Event) → Enabled (events run) places p event → NextCall script s event.thread event.op
+  pub own : (p : ℕ) (event : Event) → Enabled (events run) places p event → Same run event.thread places p
+
+-- the whole list
 pub replay_along : (script : Script) (run : List Taken) (end : State) (places : List ℕ) → Run script (start script) run end
     → Reordering (events run) places
-    → (s : State) × Run script (start script) (along run places) s
-    × ((p : ℕ) (event : Event) → Enabled (events run) places p event → NextCall script s event.thread event.op)
+    → (s : State) × Run script (start script) (along run places) s × Leaves script run places s
 replay_along script run end places runs order =
     let at : ℕ → State = state_at script run (start script) end runs in
     let first : at 0 ≡ start script = state_at-zero script run (start script) end runs in
@@ -285,8 +291,15 @@ replay_along script run end places runs order =
     let (s, along_run, kept) = replay script run at first step [] places (start script) (none_done script run at first step) order in (
       s,
       along_run,
-      λ p event enabled.
-          (let (taken, here, same) = taken_at run p event enabled.here in
-          let next = next_own script run at first step places s kept p taken here enabled.open_still enabled.after in
-          rw (← same) next),
+      record {
+        owner = kept.owner;
+        next = λ p event enabled.
+            (let (taken, here, same) = taken_at run p event enabled.here in
+            let next = next_own script run at first step places s kept p taken here enabled.open_still enabled.after in
+            rw (← same) next);
+        own = λ p event enabled.
+            (let (taken, here, same) = taken_at run p event enabled.here in
+            let own = same_own script run at first step places s kept p taken here enabled.open_still enabled.after in
+            subst (λ (e : Event). Same run e.thread places p) same own);
+      },
     )

@@ -1,17 +1,19 @@
 //! The replay of a finding.
 
-ghost use Rattle.std.specs.Prelude.{◌≡◌, IfOk};
+ghost use Rattle.std.specs.Prelude.{◌≡◌, ◌<◌, All, IfOk, Some, length};
+ghost use Rattle.std.specs.List.{AllZip};
 ghost use Rattle.trace_laws.specs.Reordering.{CorrectReordering};
-ghost use Rattle.trace_laws.specs.Stored.{race_of};
+ghost use Rattle.trace_laws.specs.Stored.{deadlock_of, race_of};
+ghost use Rattle.trace_laws.specs.Trace.{thread_at};
 ghost use Rattle.script_machine.specs.Held.{meaning};
 ghost use Rattle.replayer.specs.Replays.{ReplaysTo};
-ghost use Rattle.replayer.specs.Replayed.{IsFindingOf, IsReplayOf};
+ghost use Rattle.replayer.specs.Replayed.{IsDeadlockOf, IsDeadlockReplay, IsFindingOf, IsRaceOf, IsRaceReplay, IsReplayOf};
 
 use crate::{Reached, reorder};
 use script_machine::{Machine, Recording, Script};
-use sp_base::OutOfMemory;
+use sp_base::{OutOfMemory, ThreadId};
 use std::alloc::Global;
-use trace_laws::Finding;
+use trace_laws::{Deadlock, Finding, Keep, Race, Trace};
 
 // The machine of the script after the recording's events at these places, each taken as a step from the start.
 fn machine_along<'a>(
@@ -34,11 +36,65 @@ fn machine_along<'a>(
     Ok(machine)
 }
 
+// The replay of a race.
+fn replay_race<'a>(
+    alloc: Global,
+    script: &'a Script,
+    recording: &Recording,
+    race: &Race,
+    keep: &Keep,
+) -> Result<Reached<'a>, OutOfMemory>
+    requires script { recording.now.machine.script ≡ script.now }
+    requires race { IsRaceOf recording.now.trace (race_of (Finding.Race race.now keep.now)) }
+    ensures { IfOk result (λ reached. IsRaceReplay script.now recording.now.trace (race_of (Finding.Race race.now keep.now)) reached) }
+{
+    let trace = recording.trace();
+    let places = reorder(alloc, trace, keep)?;
+    let machine = machine_along(alloc, script, recording, &places)?;
+    let later = trace.event(race.later).thread;
+    let earlier = trace.event(race.earlier).thread;
+    let threads = Vec::from_slice(alloc, [later, earlier].as_slice())?;
+    Ok(Reached::made(machine, threads))
+}
+
+// The threads of the picks.
+fn threads_of(alloc: Global, trace: &Trace, picks: &[u32]) -> Result<Vec<ThreadId>, OutOfMemory>
+    requires { All (λ pick. pick < length trace.now.events) picks.now }
+    ensures { IfOk result (λ threads. AllZip (λ p t. thread_at trace.now.events p ≡ Some t) picks.now threads.items) }
+{
+    let mut threads = Vec::with_capacity(alloc, picks.len())?;
+    for pick in picks {
+        let event = trace.event(*pick);
+        threads.push_reserved(event.thread);
+    }
+    Ok(threads)
+}
+
+// The replay of a deadlock.
+fn replay_deadlock<'a>(
+    alloc: Global,
+    script: &'a Script,
+    recording: &Recording,
+    deadlock: &Deadlock,
+    keep: &Keep,
+) -> Result<Reached<'a>, OutOfMemory>
+    requires script { recording.now.machine.script ≡ script.now }
+    requires deadlock { IsDeadlockOf recording.now.trace (deadlock_of (Finding.Deadlock deadlock.now keep.now)) }
+    ensures { IfOk result (λ reached. IsDeadlockReplay script.now recording.now.trace (deadlock_of (Finding.Deadlock deadlock.now keep.now)) reached) }
+{
+    let trace = recording.trace();
+    let kept = reorder(alloc, trace, keep)?;
+    let machine = machine_along(alloc, script, recording, &kept)?;
+    let threads = threads_of(alloc, trace, deadlock.picks())?;
+    Ok(Reached::made(machine, threads))
+}
+
 /// Replays a finding of a recording: takes the kept events as steps of the script from the start.
 ///
-/// The recording is one of the script, and the finding a race of the recording's trace, with its keep. The machine after
-/// the kept events reaches it: both threads are about to make their accesses, each can step, and each still can, with the
-/// same next call, after the other has stepped. The only error is want of memory.
+/// The recording is one of the script, and the finding one of the recording's trace, with its keep. The machine after the
+/// kept events reaches it. At a race both threads are about to make their accesses, each can step, and each still can, with
+/// the same next call, after the other has stepped. At a deadlock each thread is about to acquire a lock that the thread of
+/// the next pick in the cycle owns, and none of them ever steps again. The only error is want of memory.
 pub fn replay<'a>(
     alloc: Global,
     script: &'a Script,
@@ -47,16 +103,12 @@ pub fn replay<'a>(
 ) -> Result<Reached<'a>, OutOfMemory>
     requires script { recording.now.machine.script ≡ script.now }
     requires finding { IsFindingOf recording.now.trace finding.now }
-    ensures { IfOk result (λ reached. IsReplayOf script.now recording.now.trace (race_of finding.now) reached) }
+    ensures { IfOk result (λ reached. IsReplayOf script.now recording.now.trace finding.now reached) }
 {
-    let Finding::Race(race, keep) = finding else {
-        unreachable!()
-    };
-    let trace = recording.trace();
-    let places = reorder(alloc, trace, keep)?;
-    let machine = machine_along(alloc, script, recording, &places)?;
-    let later = trace.event(race.later).thread;
-    let earlier = trace.event(race.earlier).thread;
-    let threads = Vec::from_slice(alloc, [later, earlier].as_slice())?;
-    Ok(Reached::made(machine, threads))
+    match finding {
+        Finding::Race(race, keep) => replay_race(alloc, script, recording, race, keep),
+        Finding::Deadlock(deadlock, keep) => {
+            replay_deadlock(alloc, script, recording, deadlock, keep)
+        }
+    }
 }

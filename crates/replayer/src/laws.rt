@@ -1,6 +1,6 @@
 //! The laws of replays, over all runs of all scripts.
 
-ghost use Rattle.replayer.specs.Replays.{ReplayLaw, RaceLaw};
+ghost use Rattle.replayer.specs.Replays.{ReplayLaw, RaceLaw, DeadlockLaw};
 
 /// Each correct reordering of a legal run is a legal run in which each step brings the value that it brought before.
 pub fn replay_law()
@@ -11,4 +11,10 @@ pub fn replay_law()
 /// still can, with the same next call, after the other has stepped.
 pub fn race_law()
     ensures { RaceLaw }
+{}
+
+/// After one that leaves the picks of an instance of a pattern enabled, each of their threads is about to acquire a lock
+/// that the thread of the next one in the cycle owns, and in no list of steps from there does any of them step.
+pub fn deadlock_law()
+    ensures { DeadlockLaw }
 {}

@@ -77,6 +77,7 @@ fn reaches(
 fn the_race_of_two_writes_is_reached(rt: HostRuntime) {
     laws::replay_law();
     laws::race_law();
+    laws::deadlock_law();
     let text = b"thread a\nwrite y 1\nwrite x 2\nthread b\nwrite x 3\n".as_slice();
     let Ok(script) = Script::read(rt.alloc(), text) else {
         assert!(rt; false);

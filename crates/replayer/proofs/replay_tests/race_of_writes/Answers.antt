@@ -22,4 +22,4 @@ returns c =
     let race = three_writes h c.in_ok-written.field-0 c.in_ok-earlier.earlier (omega arith) (omega arith) c.in_ok-written.ensures.own c.in_ok-written.ensures.writes
     c.in_ok-earlier.ensures.own c.in_ok-earlier.ensures.writes c.in_ok-later.ensures.own writes in
     let is : IsRaceOf h (record { later = 2; earlier = 1; keep = c.in-Ok.keep }) = rw (c.in-Ok.ensures ∙ c.as_slice.ensures) race in
-    record { kind = tt; race = subst (λ z. IsRaceOf z (record { later = 2; earlier = 1; keep = c.in-Ok.keep })) c.trace-trace.ensures.value is }
+    subst (λ z. IsRaceOf z (record { later = 2; earlier = 1; keep = c.in-Ok.keep })) c.trace-trace.ensures.value is

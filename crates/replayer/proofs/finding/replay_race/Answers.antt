@@ -1,22 +1,21 @@
 use Rattle.std.proofs.Common.{◌≡◌, [], ◌∷◌, All, sym, ap, ◌∙◌, subst}
 use Rattle.std.proofs.lemmas.Option.{slice_get_within}
 use Rattle.trace_laws.specs.Event.{Event}
-use Rattle.trace_laws.specs.Stored.{race_of}
 use Rattle.trace_laws.specs.Findings.{FoundRace}
 use Rattle.script_machine.specs.Held.{Held, meaning}
 use Rattle.replayer.specs.Reorders.{FollowsKeep}
-use Rattle.replayer.specs.Replayed.{IsRaceOf, IsRunningIn, IsReplayOf}
+use Rattle.replayer.specs.Replayed.{IsRaceOf, IsRunningIn}
 use Rattle.replayer.proofs.KeptRaces.{kept_leave, machine_reaches, threads_are, is_replay, both_run}
-use Rattle.replayer.proofs.finding.replay.Goals as goal
+use Rattle.replayer.proofs.finding.replay_race.Goals as goal
 
 pub machine_along-requires-clause-correct : goal.machine_along-requires-clause-correct
 machine_along-requires-clause-correct c =
     let h = c.args.recording.now.trace in
     let same = c.trace-trace.ensures.value in
-    let found : FoundRace = record { later = c.in-Race.race.later; earlier = c.in-Race.race.earlier; keep = c.in-Race.keep } in
-    let is : IsRaceOf h found = subst (λ f. IsRaceOf h (race_of f)) c.in-Race.is c.requires.finding.race in
+    let found : FoundRace = record { later = c.args.race.now.later; earlier = c.args.race.now.earlier; keep = c.args.keep.now } in
+    let is : IsRaceOf h found = c.requires.race in
     let places = c.in_ok-places.places.items in
-    let least = subst (λ x. FollowsKeep x c.in-Race.keep places) same c.in_ok-places.ensures.least in
+    let least = subst (λ x. FollowsKeep x c.args.keep.now places) same c.in_ok-places.ensures.least in
     rw c.deref.ensures.value (kept_leave h found places is least).correct
 
 pub event-requires : goal.event-requires
@@ -25,8 +24,8 @@ event-requires c =
     let h = c.args.recording.now.trace in
     let trace = c.trace-trace.result.now in
     let same = c.trace-trace.ensures.value in
-    let found : FoundRace = record { later = c.in-Race.race.later; earlier = c.in-Race.race.earlier; keep = c.in-Race.keep } in
-    let is : IsRaceOf h found = subst (λ f. IsRaceOf h (race_of f)) c.in-Race.is c.requires.finding.race in
+    let found : FoundRace = record { later = c.args.race.now.later; earlier = c.args.race.now.earlier; keep = c.args.keep.now } in
+    let is : IsRaceOf h found = c.requires.race in
     let places = c.in_ok-places.places.items in
     let m : Held = c.in_ok-machine.machine in
     let there = machine_reaches script h trace found m places c.deref.result.now same c.deref.ensures.value is c.in_ok-places.ensures.kept c.in_ok-places.ensures.least c.in_ok-machine.ensures.replayed in
@@ -38,8 +37,8 @@ event-requires-2 c =
     let h = c.args.recording.now.trace in
     let trace = c.trace-trace.result.now in
     let same = c.trace-trace.ensures.value in
-    let found : FoundRace = record { later = c.in-Race.race.later; earlier = c.in-Race.race.earlier; keep = c.in-Race.keep } in
-    let is : IsRaceOf h found = subst (λ f. IsRaceOf h (race_of f)) c.in-Race.is c.requires.finding.race in
+    let found : FoundRace = record { later = c.args.race.now.later; earlier = c.args.race.now.earlier; keep = c.args.keep.now } in
+    let is : IsRaceOf h found = c.requires.race in
     let places = c.in_ok-places.places.items in
     let m : Held = c.in_ok-machine.machine in
     let there = machine_reaches script h trace found m places c.deref.result.now same c.deref.ensures.value is c.in_ok-places.ensures.kept c.in_ok-places.ensures.least c.in_ok-machine.ensures.replayed in
@@ -51,8 +50,8 @@ made-requires c =
     let h = c.args.recording.now.trace in
     let trace = c.trace-trace.result.now in
     let same = c.trace-trace.ensures.value in
-    let found : FoundRace = record { later = c.in-Race.race.later; earlier = c.in-Race.race.earlier; keep = c.in-Race.keep } in
-    let is : IsRaceOf h found = subst (λ f. IsRaceOf h (race_of f)) c.in-Race.is c.requires.finding.race in
+    let found : FoundRace = record { later = c.args.race.now.later; earlier = c.args.race.now.earlier; keep = c.args.keep.now } in
+    let is : IsRaceOf h found = c.requires.race in
     let places = c.in_ok-places.places.items in
     let m : Held = c.in_ok-machine.machine in
     let there = machine_reaches script h trace found m places c.deref.result.now same c.deref.ensures.value is c.in_ok-places.ensures.kept c.in_ok-places.ensures.least c.in_ok-machine.ensures.replayed in
@@ -69,8 +68,8 @@ returns c =
     let h = c.args.recording.now.trace in
     let trace = c.trace-trace.result.now in
     let same = c.trace-trace.ensures.value in
-    let found : FoundRace = record { later = c.in-Race.race.later; earlier = c.in-Race.race.earlier; keep = c.in-Race.keep } in
-    let is : IsRaceOf h found = subst (λ f. IsRaceOf h (race_of f)) c.in-Race.is c.requires.finding.race in
+    let found : FoundRace = record { later = c.args.race.now.later; earlier = c.args.race.now.earlier; keep = c.args.keep.now } in
+    let is : IsRaceOf h found = c.requires.race in
     let places = c.in_ok-places.places.items in
     let m : Held = c.in_ok-machine.machine in
     let there = machine_reaches script h trace found m places c.deref.result.now same c.deref.ensures.value is c.in_ok-places.ensures.kept c.in_ok-places.ensures.least c.in_ok-machine.ensures.replayed in
@@ -79,5 +78,4 @@ returns c =
     let events = threads_are script h trace found (meaning m) there same c.event.result c.event-2.result c.event.ensures c.event-2.ensures in
     let ids : c.event.result.thread ∷ c.event-2.result.thread ∷ [] ≡ c.later.inside.thread ∷ c.earlier.inside.thread ∷ [] = (λ i. later i ∷ earlier i ∷ []) in
     let are = events ∙ ids ∙ sym (c.in_ok-threads.ensures.items ∙ c.as_slice.ensures) in
-    rw c.made.ensures (subst (λ f. IsReplayOf script h (race_of f) (record { machine = m; threads = c.in_ok-threads.threads.items })) (sym c.in-Race.is)
-    (is_replay script h found m c.in_ok-threads.threads.items c.in_ok-machine.ensures.script there are))
+    rw c.made.ensures (is_replay script h found m c.in_ok-threads.threads.items c.in_ok-machine.ensures.script there are)
