@@ -4,3 +4,7 @@ pub mod Releasing
 pub mod Accessing
 pub mod Filled
 pub mod Named
+pub mod LockSets
+pub mod SetNumbering
+pub mod Holding
+pub mod HeldNumbers

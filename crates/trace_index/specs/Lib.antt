@@ -3,3 +3,4 @@ pub mod Writers
 pub mod Sections
 pub mod Accessed
 pub mod Indexes
+pub mod HeldSets

@@ -1,15 +1,20 @@
 //! The index of a trace.
 
-ghost use Rattle.std.specs.Prelude.{ℕ, ◌≡◌, ◌<◌, ◌↔◌, length, IfOk, Some};
+ghost use Rattle.std.specs.Prelude.{ℕ, ◌≡◌, ◌<◌, ◌↔◌, length, IfOk, IsTrue, Some};
 ghost use Rattle.trace_laws.specs.Trace.{Reads, op_at, IsWriter, IsReleaseOf};
 ghost use Rattle.trace_laws.specs.Kept.{local_of};
 ghost use Rattle.trace_index.specs.Accessed.{AreAccesses, AreVariablesBelow};
+ghost use Rattle.trace_index.specs.HeldSets.{AreLocksBelow, IsAcquire, IsHeldAt, IsHeldSet, HaveSameHeld, HaveNoneCommon, IsFirstAlike};
 
 use crate::access_lists::AccessLists;
+use crate::held_sets::HeldSets;
+use crate::holdings::Holdings;
 use crate::locals::Locals;
+use crate::lock_sets;
 use crate::sections::Sections;
+use crate::set_numbers::SetNumbers;
 use crate::writers::Writers;
-use sp_base::{MAX_VARS, OutOfMemory, VarId};
+use sp_base::{LockId, MAX_LOCKS, MAX_VARS, OutOfMemory, VarId};
 use std::alloc::Global;
 use std::marker::Model;
 use trace_laws::{Op, Trace};
@@ -24,6 +29,9 @@ pub struct Index<'a> {
     writers: Vec<Option<u32>>,
     releases: Vec<Option<u32>>,
     accesses: Vec<Vec<u32>>,
+    sets: SetNumbers,
+    firsts: Vec<u32>,
+    held: Vec<u32>,
 }
 
 impl<'a> Model for Index<'a> {
@@ -47,11 +55,15 @@ impl<'a> Index<'a> {
         let mut writers = Writers::new(alloc, trace)?;
         let mut sections = Sections::new(alloc, trace)?;
         let mut accesses = AccessLists::new(alloc, trace)?;
+        let mut holdings = Holdings::new(alloc, trace)?;
+        let mut held = HeldSets::new(alloc, trace)?;
         for place in 0..trace.len() {
             locals.note(trace, place);
             writers.note(trace, place);
             sections.note(trace, place);
             accesses.note(trace, place)?;
+            held.note(trace, place, &holdings)?;
+            holdings.note(trace, place)?;
         }
         Ok(Index {
             trace,
@@ -59,6 +71,9 @@ impl<'a> Index<'a> {
             writers: writers.writers,
             releases: sections.releases,
             accesses: accesses.lists,
+            sets: held.sets,
+            firsts: held.firsts,
+            held: held.numbers,
         })
     }
 
@@ -66,6 +81,7 @@ impl<'a> Index<'a> {
     pub fn trace(&self) -> &'a Trace
         ensures value { result.now ≡ self.now }
         ensures variables { AreVariablesBelow self.now.events MAX_VARS }
+        ensures locks { AreLocksBelow self.now.events MAX_LOCKS }
     {
         self.trace
     }
@@ -99,5 +115,48 @@ impl<'a> Index<'a> {
         ensures { AreAccesses self.now.events var result.now }
     {
         &self.accesses[var.value() as usize]
+    }
+
+    /// The held set of an acquire: the numbers of the locks that its thread holds just before it, from the least on.
+    pub fn held(&self, place: u32) -> &[u32]
+        requires { IsAcquire self.now.events place }
+        ensures { IsHeldSet self.now.events place result.now }
+    {
+        self.sets.set(self.held[place as usize] as usize)
+    }
+
+    /// The first acquire of the trace whose held set is that of an acquire. So two acquires have one held set exactly
+    /// where this place is the same.
+    pub fn first_alike(&self, place: u32) -> u32
+        requires { IsAcquire self.now.events place }
+        ensures { IsFirstAlike self.now.events place result }
+    {
+        self.firsts[self.held[place as usize] as usize]
+    }
+
+    /// Whether a lock is in the held set of an acquire.
+    pub fn holds(&self, place: u32, lock: LockId) -> bool
+        requires { IsAcquire self.now.events place }
+        ensures { IsTrue result ↔ IsHeldAt self.now.events place lock }
+    {
+        lock_sets::has(self.held(place), lock.value())
+    }
+
+    /// Whether the held sets of two acquires are equal.
+    pub fn same_held(&self, a: u32, b: u32) -> bool
+        requires a { IsAcquire self.now.events a }
+        requires b { IsAcquire self.now.events b }
+        ensures { IsTrue result ↔ HaveSameHeld self.now.events a b }
+    {
+        self.held[a as usize] == self.held[b as usize]
+    }
+
+    /// Whether the held sets of two acquires have no lock in common.
+    pub fn apart(&self, a: u32, b: u32) -> bool
+        requires a { IsAcquire self.now.events a }
+        requires b { IsAcquire self.now.events b }
+        ensures { IsTrue result ↔ HaveNoneCommon self.now.events a b }
+    {
+        lock_sets::are_apart(self.held(a), self.held(b))
     }
 }

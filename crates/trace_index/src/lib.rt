@@ -1,13 +1,18 @@
 //! What the places of a trace are tied to.
 //!
 //! An `Index` is made in one pass over a trace. It answers at once how many events of its thread stand before a place,
-//! which write a read reads, where the section of an acquire ends, and which places access a variable.
+//! which write a read reads, where the section of an acquire ends, which places access a variable, and what the thread of
+//! an acquire holds just before it.
 #![tactic(auto)]
 
 mod access_lists;
+mod held_sets;
+mod holdings;
 mod index;
 mod locals;
+mod lock_sets;
 mod sections;
+mod set_numbers;
 #[cfg(test)]
 mod tests;
 mod writers;
