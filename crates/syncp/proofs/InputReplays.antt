@@ -9,7 +9,7 @@ use Rattle.trace_laws.specs.Traces.{History}
 use Rattle.std_text.specs.Framing.{Progress, start_with, after, closed}
 use Rattle.std_text.specs.Refusal.{◌>>=◌}
 use Rattle.script_machine.specs.Held.{meaning}
-use Rattle.script_machine.specs.Machine.{Script, LegalRun}
+use Rattle.script_machine.specs.Machine.{Script}
 use Rattle.script_machine.specs.Recorded.{Recorded}
 use Rattle.script_machine.specs.ScriptText.{Scripts, FirstFault}
 use Rattle.syncp.specs.declared.outcome.Fault.{Fault}
@@ -20,6 +20,7 @@ use Rattle.syncp.specs.Predictions.{ArePredictions}
 use Rattle.syncp.specs.Recorded.{newlines}
 use Rattle.syncp.specs.Replayed.{Says, IsReplay, WritesReplays, reading_behind, run_of}
 use Rattle.syncp.specs.Replaying.{FailsToReplay, FailsToScript, Records, ReplaysRun}
+use Rattle.syncp.proofs.Recordings.{leads_to, trace_is_run}
 
 -- want of memory while a recording is replayed
 pub replay_refused : (script : Script) (run : History) (f : Fault) (input : List ℕ) → ReplaysRun script run (Err f) → FailsToReplay f input
@@ -84,7 +85,7 @@ module _ (input scripts trace : List ℕ) (line : ℕ) (few : length input ≤ M
       module _ (law : LocationsDoNotCount) (r : Recorded) (records : Records script p.reading.events (Ok r)) where
         -- the recording has the script's number of threads
         is_run : r.trace ≡ run_of script r.trace.events
-        is_run = let count = records.1.threads ∙ ap (λ s. length s.bodies) records.0 in λ i. record { events = r.trace.events; threads = count i }
+        is_run = trace_is_run script r records.0 records.1
 
         -- what is predicted of it is predicted of the trace
         predicted : (all : Found) → ArePredictions r.trace all → ArePredictions (run_of script p.reading.events) all
@@ -100,7 +101,7 @@ module _ (input scripts trace : List ℕ) (line : ℕ) (few : length input ≤ M
             says = says;
             run = r.trace.events;
             end = meaning r.machine;
-            legal = subst (λ s. LegalRun s r.trace.events (meaning r.machine)) records.0 records.1.legal;
+            legal = leads_to script r records.0 records.1;
             same = records.2;
           };
           all = replays.0;

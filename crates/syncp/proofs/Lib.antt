@@ -15,3 +15,5 @@ pub mod ReplayNames
 pub mod Reporting
 pub mod Witnessing
 pub mod Showing
+pub mod EndNames
+pub mod WholeRuns

@@ -26,7 +26,7 @@ use Rattle.syncp.specs.Outcome as done
 use Rattle.syncp.specs.Run.{Means, Leaves, TellsOf, TellsLine, IsDone}
 use Rattle.syncp.specs.Inputs.{scripts_in}
 use Rattle.syncp.specs.Replayed.{SaysNoTrace, SaysNoRun, reading_behind}
-use Rattle.syncp.specs.Tasks.{Task, Predict, Record, Witness, Replay, task_of}
+use Rattle.syncp.specs.Tasks.{Task, Predict, Record, Witness, Replay, Run, task_of}
 use Rattle.syncp.specs.Statuses.{passes_limit, script_passes_limit, refusal_status, status_of}
 
 -- what was written before a refusal
@@ -130,6 +130,26 @@ script_not_refused law fault.NoFinding new all input c std known = known
 script_not_refused law fault.Read new all input c std known = known
 script_not_refused law fault.Write new all input c std known = known
 script_not_refused law fault.OutOfMemory new all input c std known = known
+
+-- a fault while scripts were read to be run
+pub fails_to_run : (Ended : Type 0) (f : Fault) (input : List ℕ) → FailsToRead Record Ended f input → FailsToRead Run Ended f input
+fails_to_run Ended (fault.Text f holder) input fails = fails
+fails_to_run Ended (fault.Script f) input fails = fails
+fails_to_run Ended (fault.NotAStep place) input fails = absurd fails
+fails_to_run Ended fault.NoFinding input fails = absurd fails
+fails_to_run Ended fault.Read input fails = fails
+fails_to_run Ended fault.Write input fails = absurd fails
+fails_to_run Ended fault.OutOfMemory input fails = fails
+
+-- a script within the limit is not refused where it is to be run
+pub run_not_refused : ExclusiveLaw → (f : Fault) (new : Option (List ℕ)) (all input : List ℕ) → Consumes (Some all) new input → IsAccepted Run all → IsRefusedIn Run (IsAtEnd new) f input → ⊥
+run_not_refused law (fault.Text f holder) new all input c std known = script_not_refused law (fault.Text f holder) new all input c std known
+run_not_refused law (fault.Script f) new all input c std known = script_not_refused law (fault.Script f) new all input c std known
+run_not_refused law (fault.NotAStep place) new all input c std known = known
+run_not_refused law fault.NoFinding new all input c std known = known
+run_not_refused law fault.Read new all input c std known = known
+run_not_refused law fault.Write new all input c std known = known
+run_not_refused law fault.OutOfMemory new all input c std known = known
 
 -- an input that is not refused is read whole, where the source does not fail and memory is found
 pub reading_completes : (task : Task) (Ended : Type 0) (input : List ℕ) (f : Fault) → (IsRefusedIn task Ended f input → ⊥) → FailsToRead task Ended f input → (f ≡ fault.Read → ⊥)

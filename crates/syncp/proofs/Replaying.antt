@@ -1,20 +1,22 @@
 -- The replays of what is found, line by line.
-use Rattle.std.proofs.Common.{◌≡◌, ℕ, ◌+◌, List, [], ◌∷◌, ◌++◌, length, take, Some, slice_get, refl, sym, ap, ◌∙◌, subst, arith, append-nil, append_assoc, length-append}
+use Rattle.std.proofs.Common.{◌≡◌, ℕ, zero, suc, ◌+◌, ◌-◌, ◌≤◌, Contains, List, [], ◌∷◌, ◌++◌, length, take, Some, slice_get, refl, sym, ap, ◌∙◌, subst, arith, append-nil, append_assoc, length-append}
 use Rattle.std.specs.Prelude.{get_or}
 use Rattle.std.specs.List.{AllZip}
 use Rattle.std.proofs.lemmas.List.{take_more, take_all, length-take}
 use Rattle.std.proofs.lemmas.Option.{slice_get_within, get_or_from_slice_get}
-use Rattle.trace_laws.specs.Findings.{Found, FoundRace, IsFoundRace, by_reorderings}
+use Rattle.trace_laws.specs.Findings.{Found, FoundRace, FoundDeadlock, IsFoundRace, IsFoundDeadlock, by_reorderings}
 use Rattle.trace_laws.specs.Names.{NameLists}
-use Rattle.trace_laws.specs.Stored.{IsAt, race_of}
+use Rattle.trace_laws.specs.Patterns.{Class}
+use Rattle.trace_laws.specs.Stored.{IsAt, race_of, deadlock_of}
 use Rattle.trace_laws.specs.Traces.{History}
 use Rattle.trace_laws.specs.declared.finding.Finding.{Finding}
+use Rattle.trace_laws.specs.declared.finding.Finding.TheVariants.{Race, Deadlock}
+use Rattle.trace_laws.proofs.Places.{contains_head, contains_tail}
 use Rattle.script_machine.specs.Machine.{Script}
-use Rattle.replayer.specs.Replayed.{Replayed, IsFindingOf, IsReplayOf}
+use Rattle.replayer.specs.Replayed.{Replayed, IsFindingOf, IsRaceReplay, IsDeadlockReplay}
 use Rattle.report.specs.ReachedLines.{reached_line, closing_reached}
 use Rattle.syncp.specs.Predictions.{ArePredictions, count_of_findings}
 use Rattle.syncp.specs.Replayed.{AddsReplay, WritesReplays, reached_lines}
-use Rattle.syncp.proofs.Scanning.{no_deadlocks, race_at}
 
 -- one line more
 lines_more : (names : NameLists) (n m : ℕ) (replays : List Replayed) (last : Replayed) → m ≡ n + length replays
@@ -31,54 +33,113 @@ zip_push R [] (b ∷ ys) x y h r = absurd h
 zip_push R (a ∷ xs) [] x y h r = absurd h
 zip_push R (a ∷ xs) (b ∷ ys) x y h r = (h.0, zip_push R xs ys x y h.1 r)
 
--- the replays of the first races
-pub record AreReplayed (script : Script) (run : History) (races : List FoundRace) (text : List ℕ) : Type 0 where
-  pub replays : List Replayed
-  pub replayed : AllZip (IsReplayOf script run) races replays
-  pub count : length replays ≡ length races
-  pub written : text ≡ reached_lines script.names 1 replays
+-- there are as many partners as elements
+zip_length : {A B : Type 0} (R : A → B → Type 0) (xs : List A) (ys : List B) → AllZip R xs ys → length ys ≡ length xs
+zip_length R [] [] h = refl
+zip_length R [] (y ∷ ys) h = absurd h
+zip_length R (x ∷ xs) [] h = absurd h
+zip_length R (x ∷ xs) (y ∷ ys) h = let rest = zip_length R xs ys h.1 in omega arith
+
+-- the replays of the first findings, of which the races come first
+pub record AreReplayed (script : Script) (run : History) (found : Found) (n : ℕ) (text : List ℕ) : Type 0 where
+  pub races : List Replayed
+  pub deadlocks : List Replayed
+  pub of_races : AllZip (IsRaceReplay script run) (take n found.races) races
+  pub of_deadlocks : AllZip (IsDeadlockReplay script run) (take (n - length found.races) found.deadlocks) deadlocks
+  pub written : text ≡ reached_lines script.names 1 (races ++ deadlocks)
 
 -- those of none
-pub none_replayed : (script : Script) (run : History) → AreReplayed script run [] []
-none_replayed script run = record { replays = []; replayed = tt; count = refl; written = refl }
+pub none_replayed : (script : Script) (run : History) (found : Found) → AreReplayed script run found 0 []
+none_replayed script run found =
+    let zero_left : 0 ≡ 0 - length found.races = omega arith in
+    record { races = []; deadlocks = []; of_races = tt; of_deadlocks = subst (λ k. AllZip (IsDeadlockReplay script run) (take k found.deadlocks) []) zero_left tt; written = refl }
+
+-- one element more at the end of a front
+front_more : {X : Type 0} (xs : List X) (i : ℕ) (x : X) → slice_get xs i ≡ Some x → take (i + 1) xs ≡ take i xs ++ x ∷ []
+front_more xs i x at = take_more xs i x (slice_get_within xs i x at) ∙ ap (λ r. take i xs ++ r ∷ []) (get_or_from_slice_get xs i x x at)
 
 -- one replay more
-pub one_replayed : (script : Script) (run : History) (races : List FoundRace) (i number : ℕ) (race : FoundRace) (old new : List ℕ) → slice_get races i ≡ Some race → number ≡ i + 1
-    → AreReplayed script run (take i races) old → AddsReplay script run race number old new → AreReplayed script run (take (i + 1) races) new
-one_replayed script run races i number race old new at counted so adds =
-    let within = slice_get_within races i race at in
-    let here : get_or races i race ≡ race = get_or_from_slice_get races i race race at in
-    let more : take (i + 1) races ≡ take i races ++ race ∷ [] = take_more races i race within ∙ ap (λ r. take i races ++ r ∷ []) here in
-    let size = length-take i races in
-    subst (λ rs. AreReplayed script run rs new) (sym more) (record {
-      replays = so.replays ++ adds.replay ∷ [];
-      replayed = zip_push (IsReplayOf script run) (take i races) so.replays race adds.replay so.replayed adds.is;
-      count = length-append so.replays (adds.replay ∷ []) ∙ omega (arith, so.count, length-append (take i races) (race ∷ []));
-      written = adds.line ∙ ap (λ l. l ++ reached_line script.names number adds.replay) so.written
-          ∙ sym (lines_more script.names 1 number so.replays adds.replay (omega (arith, so.count, counted, size, within)));
-    })
-
--- all of them
-pub all_replayed : (script : Script) (run : History) (found : Found) (n : ℕ) (lines text : List ℕ) → ArePredictions run found → n ≡ count_of_findings found
-    → AreReplayed script run (take n found.races) lines → text ≡ lines ++ closing_reached n → WritesReplays script run found text
-all_replayed script run found n lines text are counted so closed =
-    let alone = ap length (no_deadlocks run found are) in
-    let whole : take n found.races ≡ found.races = take_all n found.races (omega (arith, counted, alone)) in
-    let all = subst (λ rs. AreReplayed script run rs lines) whole so in
-    let size : length all.replays ≡ n = omega (arith, all.count, counted, alone) in
+pub one_replayed : (script : Script) (run : History) (found : Found) (n number : ℕ) (f : Finding) (old new : List ℕ) → IsAt found n f → number ≡ n + 1
+    → AreReplayed script run found n old → AddsReplay script run f number old new → AreReplayed script run found (n + 1) new
+one_replayed script run found n number (Race r keep) old new at counted so adds =
+    let within = slice_get_within found.races n (race_of (Race r keep)) at in
+    let zero_left : 0 ≡ n - length found.races = omega (arith, within) in
+    let none : take (n - length found.races) found.deadlocks ≡ [] = subst (λ k. take k found.deadlocks ≡ []) zero_left refl in
+    let none_still : n + 1 - length found.races ≡ n - length found.races = omega (arith, within) in
+    let empty : so.deadlocks ≡ [] = nil_of so.deadlocks (subst (λ ds. AllZip (IsDeadlockReplay script run) ds so.deadlocks) none so.of_deadlocks) in
+    let size : length so.races ≡ n = zip_length (IsRaceReplay script run) (take n found.races) so.races so.of_races ∙ omega (arith, within, length-take n found.races) in
     record {
-      replays = all.replays;
-      replayed = all.replayed;
-      count = omega (arith, size, counted);
-      written = closed ∙ ap (λ l. l ++ closing_reached n) all.written ∙ ap (λ k. reached_lines script.names 1 all.replays ++ closing_reached k) (sym size);
+      races = so.races ++ adds.replay ∷ [];
+      deadlocks = so.deadlocks;
+      of_races = subst (λ rs. AllZip (IsRaceReplay script run) rs (so.races ++ adds.replay ∷ [])) (sym (front_more found.races n (race_of (Race r keep)) at))
+          (zip_push (IsRaceReplay script run) (take n found.races) so.races (race_of (Race r keep)) adds.replay so.of_races adds.is);
+      of_deadlocks = subst (λ k. AllZip (IsDeadlockReplay script run) (take k found.deadlocks) so.deadlocks) (sym none_still) so.of_deadlocks;
+      written = adds.line ∙ ap (λ l. l ++ reached_line script.names number adds.replay) (so.written ∙ ap (λ ds. reached_lines script.names 1 (so.races ++ ds)) empty ∙ ap (reached_lines script.names 1) (append-nil so.races))
+          ∙ sym (lines_more script.names 1 number so.races adds.replay (omega (arith, size, counted)))
+          ∙ ap (reached_lines script.names 1) (sym (ap (λ ds. (so.races ++ adds.replay ∷ []) ++ ds) empty ∙ append-nil (so.races ++ adds.replay ∷ [])));
+    }
+  where
+    nil_of : (ds : List Replayed) → AllZip (IsDeadlockReplay script run) [] ds → ds ≡ []
+    nil_of [] h = refl
+    nil_of (d ∷ ds) h = absurd h
+one_replayed script run found n number (Deadlock picks keep) old new at counted so adds =
+    let past : length found.races ≤ n = at.0 in
+    let here = at.1 in
+    let within = slice_get_within found.deadlocks (n - length found.races) (deadlock_of (Deadlock picks keep)) here in
+    let next : n + 1 - length found.races ≡ n - length found.races + 1 = omega (arith, past) in
+    let all : take n found.races ≡ found.races = take_all n found.races past in
+    let all_still : take (n + 1) found.races ≡ found.races = take_all (n + 1) found.races (omega (arith, past)) in
+    let races : length so.races ≡ length found.races = zip_length (IsRaceReplay script run) (take n found.races) so.races so.of_races ∙ ap length all in
+    let deadlocks : length so.deadlocks ≡ n - length found.races = zip_length (IsDeadlockReplay script run) (take (n - length found.races) found.deadlocks) so.deadlocks so.of_deadlocks
+    ∙ omega (arith, within, length-take (n - length found.races) found.deadlocks) in
+    record {
+      races = so.races;
+      deadlocks = so.deadlocks ++ adds.replay ∷ [];
+      of_races = subst (λ rs. AllZip (IsRaceReplay script run) rs so.races) (all ∙ sym all_still) so.of_races;
+      of_deadlocks = subst (λ k. AllZip (IsDeadlockReplay script run) (take k found.deadlocks) (so.deadlocks ++ adds.replay ∷ [])) (sym next)
+          (subst (λ ds. AllZip (IsDeadlockReplay script run) ds (so.deadlocks ++ adds.replay ∷ [])) (sym (front_more found.deadlocks (n - length found.races) (deadlock_of (Deadlock picks keep)) here))
+          (zip_push (IsDeadlockReplay script run) (take (n - length found.races) found.deadlocks) so.deadlocks (deadlock_of (Deadlock picks keep)) adds.replay so.of_deadlocks adds.is));
+      written = adds.line ∙ ap (λ l. l ++ reached_line script.names number adds.replay) so.written
+          ∙ sym (lines_more script.names 1 number (so.races ++ so.deadlocks) adds.replay (omega (arith, races, deadlocks, counted, past, length-append so.races so.deadlocks)))
+          ∙ ap (reached_lines script.names 1) (append_assoc so.races so.deadlocks (adds.replay ∷ []));
     }
 
--- what is found is a race of the trace, with its keep
+-- all of them
+pub all_replayed : (script : Script) (run : History) (found : Found) (n : ℕ) (lines text : List ℕ) → n ≡ count_of_findings found
+    → AreReplayed script run found n lines → text ≡ lines ++ closing_reached n → WritesReplays script run found text
+all_replayed script run found n lines text counted so closed =
+    let races : take n found.races ≡ found.races = take_all n found.races (omega (arith, counted)) in
+    let deadlocks : take (n - length found.races) found.deadlocks ≡ found.deadlocks = take_all (n - length found.races) found.deadlocks (omega (arith, counted)) in
+    let of_races = subst (λ rs. AllZip (IsRaceReplay script run) rs so.races) races so.of_races in
+    let of_deadlocks = subst (λ ds. AllZip (IsDeadlockReplay script run) ds so.deadlocks) deadlocks so.of_deadlocks in
+    let first = zip_length (IsRaceReplay script run) found.races so.races of_races in
+    let second = zip_length (IsDeadlockReplay script run) found.deadlocks so.deadlocks of_deadlocks in
+    let size : n ≡ length (so.races ++ so.deadlocks) = omega (arith, first, second, counted, length-append so.races so.deadlocks) in
+    record {
+      races = so.races;
+      deadlocks = so.deadlocks;
+      of_races = of_races;
+      of_deadlocks = of_deadlocks;
+      written = closed ∙ ap (λ l. l ++ closing_reached n) so.written ∙ ap (λ k. reached_lines script.names 1 (so.races ++ so.deadlocks) ++ closing_reached k) size;
+    }
+
+-- the pattern of a deadlock that is found
+pattern_of : {A B : Type 0} (R : A → B → Type 0) (xs : List A) (ys : List B) (i : ℕ) (y : B) → AllZip R xs ys → slice_get ys i ≡ Some y → (x : A) × Contains xs x × R x y
+pattern_of R [] [] i y h at = absurd (cc)
+pattern_of R [] (z ∷ ys) i y h at = absurd h
+pattern_of R (x ∷ xs) [] i y h at = absurd h
+pattern_of R (x ∷ xs) (z ∷ ys) zero y h at = let same : z ≡ y = cc in (x, contains_head x xs, subst (R x) same h.0)
+pattern_of R (x ∷ xs) (z ∷ ys) (suc i) y h at = let (p, inside, is) = pattern_of R xs ys i y h.1 at in (p, contains_tail x xs p inside, is)
+
+-- what is found is a race or a deadlock of the trace, with its keep
 pub finding_of : (h : History) (found : Found) (n : ℕ) (f : Finding) → ArePredictions h found → IsAt found n f → IsFindingOf h f
 unfolding ArePredictions
-finding_of h found n f are at =
-    let race = race_at h found n f are at in
-    let is = are.races n (race_of f) (slice_get_within found.races n (race_of f) race.1) in
-    let here = get_or_from_slice_get found.races n (race_of f) (race_of f) race.1 in
+finding_of h found n (Race r keep) are at =
+    let race = race_of (Race r keep) in
+    let is = are.races n race (slice_get_within found.races n race at) in
+    let here = get_or_from_slice_get found.races n race race at in
     let stands = subst (IsFoundRace h.events h.threads (by_reorderings h.events)) here is in
-    record { kind = race.0; race = record { race = stands.race; keep = stands.keep } }
+    record { race = stands.race; keep = stands.keep }
+finding_of h found n (Deadlock picks keep) are at =
+    let (p, inside, is) = pattern_of (IsFoundDeadlock h.events h.threads (by_reorderings h.events)) are.patterns found.deadlocks (n - length found.races) (deadlock_of (Deadlock picks keep)) are.deadlocks at.1 in
+    record { pattern = p; is_pattern = ((are.members p).0 inside).0; deadlock = is.deadlock; keep = is.keep }

@@ -13,3 +13,4 @@ pub mod Witnesses
 pub mod Inputs
 pub mod Replayed
 pub mod Replaying
+pub mod Runs

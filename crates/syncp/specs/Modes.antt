@@ -18,7 +18,8 @@ use Rattle.syncp.specs.Output.{history_of, IsStd, IsKnownFault, HasNoFault, IsOu
 use Rattle.syncp.specs.Recorded.{IsTooLong, IsRecordOf, IsScriptOf}
 use Rattle.syncp.specs.Inputs.{scripts_in}
 use Rattle.syncp.specs.Replayed.{IsReplay, SaysRun, SaysNoTrace, SaysNoRun}
-use Rattle.syncp.specs.Tasks.{Task, Predict, Record, Witness, Replay}
+use Rattle.syncp.specs.Runs.{IsRunOf}
+use Rattle.syncp.specs.Tasks.{Task, Predict, Record, Witness, Replay, Run}
 use Rattle.syncp.specs.Witnesses.{IsWitness, HasFinding, LacksFinding}
 
 -- the mode of a word
@@ -28,6 +29,7 @@ mode_named word =
     else if pointwise nat_eq word (codes "record") then Some mode.Record
     else if pointwise nat_eq word (codes "witness") then Some mode.Witness
     else if pointwise nat_eq word (codes "replay") then Some mode.Replay
+    else if pointwise nat_eq word (codes "run") then Some mode.Run
     else None
 
 -- the input is in the grammar of the task: it is a trace text, which has the finding that is asked for, a script of no
@@ -37,6 +39,7 @@ IsAccepted Predict input = (p : Progress) × IsStd input p
 IsAccepted Record input = (program : Program) × IsScriptOf input program
 IsAccepted (Witness number) input = (p : Progress) × IsStd input p × HasFinding (history_of p) number
 IsAccepted Replay input = SaysRun input
+IsAccepted Run input = (program : Program) × IsScriptOf input program
 
 -- the output for an input, and whether it has a finding
 abbrev pub IsOutputOf : Task → List ℕ → List ℕ → Bool → Type 0
@@ -44,6 +47,7 @@ IsOutputOf Predict input text found = IsOutput input text found
 IsOutputOf Record input text found = IsRecordOf input text × (found ≡ false)
 IsOutputOf (Witness number) input text found = IsWitness input number text × (found ≡ true)
 IsOutputOf Replay input text found = IsReplay input text found
+IsOutputOf Run input text found = IsRunOf input text found
 
 -- a front of an output
 abbrev pub IsFrontOf : Task → List ℕ → List ℕ → Type 0
@@ -55,6 +59,7 @@ HasNoFaultIn Predict input = HasNoFault input
 HasNoFaultIn Record input = length input ≤ MAX_INPUT
 HasNoFaultIn (Witness number) input = HasNoFault input
 HasNoFaultIn Replay input = length input ≤ MAX_INPUT
+HasNoFaultIn Run input = length input ≤ MAX_INPUT
 
 -- the whole input says a trace that has fewer findings
 abbrev pub IsPastFindings : Type 0 → List ℕ → ℕ → Type 0
@@ -74,4 +79,6 @@ IsRefusedIn (Witness number) Ended NoFinding input = IsPastFindings Ended input 
 IsRefusedIn Replay Ended (Text f holder) input = IsRefusedText Ended f holder input
 IsRefusedIn Replay Ended (Script f) input = (length input ≤ MAX_INPUT) × FirstFault (scripts_in input) f × Ended
 IsRefusedIn Replay Ended (NotAStep place) input = SaysNoRun input place × Ended
+IsRefusedIn Run Ended (Text f holder) input = IsTooLong input f × (holder ≡ [])
+IsRefusedIn Run Ended (Script f) input = (length input ≤ MAX_INPUT) × FirstFault input f × Ended
 IsRefusedIn task Ended f input = ⊥

@@ -8,19 +8,19 @@ use Rattle.std_text.specs.Refusal.{LineFault}
 use Rattle.std_text.specs.Writing.{trace_text}
 use Rattle.std_text.specs.declared.fault.StdKind.TheVariants.{InputTooLong}
 use Rattle.script_machine.specs.Machine.{Script, State, LegalRun, IsComplete}
-use Rattle.script_machine.specs.Lowest.{LegalLowestRun}
 use Rattle.script_machine.specs.ScriptText.{Scripts}
 
--- the events are a complete legal run of the script, each step of which is of the lowest thread that can step
-pub record IsLowestRecording (script : Script) (events : List Event) : Type 0 where
-  pub end : State
+-- the events are a legal run of the script, which leads to this state, where no thread can step
+pub record IsCompleteRun (script : Script) (events : List Event) (end : State) : Type 0 where
   pub legal : LegalRun script events end
-  pub lowest : LegalLowestRun script events end
   pub complete : IsComplete script end
 
--- the text of such a run, with the names of the script
-abbrev pub IsRecordedText : Script → List ℕ → Type 0
-IsRecordedText script text = (events : List Event) × IsLowestRecording script events × (text ≡ trace_text script.names events)
+-- the text is that of such a run, with the names of the script
+pub record IsRecordedText (script : Script) (text : List ℕ) : Type 0 where
+  pub events : List Event
+  pub end : State
+  pub run : IsCompleteRun script events end
+  pub written : text ≡ trace_text script.names events
 
 -- the input is the text of the script, and has no more bytes than an input may have
 pub record IsScriptOf (input : List ℕ) (script : Script) : Type 0 where

@@ -3,23 +3,21 @@ use Rattle.std.specs.Prelude.{◌≡◌, ◌≤◌, ◌+◌, ℕ, Bool, List, []
 use Rattle.std.specs.List.{AllZip}
 use Rattle.sp_base.specs.declared.limits.TheConstants.{MAX_INPUT}
 use Rattle.trace_laws.specs.Event.{Event}
-use Rattle.trace_laws.specs.Findings.{Found, FoundRace}
+use Rattle.trace_laws.specs.Findings.{Found}
+use Rattle.trace_laws.specs.declared.finding.Finding.{Finding}
 use Rattle.trace_laws.specs.Locations.{DoTheSame}
 use Rattle.trace_laws.specs.Names.{NameLists}
 use Rattle.trace_laws.specs.Traces.{History}
-use Rattle.std_text.specs.Framing.{Progress, start_with, after, closed}
-use Rattle.std_text.specs.Refusal.{Refusal, ◌>>=◌}
+use Rattle.std_text.specs.Framing.{Progress, start_with}
+use Rattle.std_text.specs.Refusal.{Refusal}
 use Rattle.script_machine.specs.Machine.{Script, State, LegalRun}
 use Rattle.script_machine.specs.OfTrace.{IsFirstNoStep}
 use Rattle.script_machine.specs.ScriptText.{Scripts}
-use Rattle.replayer.specs.Replayed.{Replayed, IsReplayOf}
+use Rattle.replayer.specs.Replayed.{Replayed, IsRaceReplay, IsDeadlockReplay, IsReplayOf}
 use Rattle.report.specs.ReachedLines.{reached_line, closing_reached}
 use Rattle.syncp.specs.Inputs.{scripts_in, trace_in, trace_line}
+use Rattle.syncp.specs.Output.{whole_reading}
 use Rattle.syncp.specs.Predictions.{ArePredictions, count_of_findings}
-
--- what a whole text says, or why it is refused
-abbrev pub whole_reading : Progress → List ℕ → Result Progress Refusal
-whole_reading p text = after p text >>= closed
 
 -- what the trace of an input says behind its script, whose names have their numbers already
 abbrev pub reading_behind : Script → List ℕ → Result Progress Refusal
@@ -69,18 +67,19 @@ abbrev pub replays_text : NameLists → List Replayed → List ℕ
 replays_text names replays = reached_lines names 1 replays ++ closing_reached (length replays)
 
 -- one more replay, whose line stands behind the others
-pub record AddsReplay (script : Script) (run : History) (race : FoundRace) (number : ℕ) (old new : List ℕ) : Type 0 where
+pub record AddsReplay (script : Script) (run : History) (finding : Finding) (number : ℕ) (old new : List ℕ) : Type 0 where
   pub replay : Replayed
-  pub is : IsReplayOf script run race replay
+  pub is : IsReplayOf script run finding replay
   pub line : new ≡ old ++ reached_line script.names number replay
 
--- The text is that of the replays of all that is found in a run of the script: each takes the script along the kept events
--- of its finding.
+-- The text is that of the replays of all that is found in a run, of the races and then of the deadlocks: each takes the
+-- script along the kept events of its finding.
 pub record WritesReplays (script : Script) (run : History) (found : Found) (text : List ℕ) : Type 0 where
-  pub replays : List Replayed
-  pub replayed : AllZip (IsReplayOf script run) found.races replays
-  pub count : length replays ≡ count_of_findings found
-  pub written : text ≡ replays_text script.names replays
+  pub races : List Replayed
+  pub deadlocks : List Replayed
+  pub of_races : AllZip (IsRaceReplay script run) found.races races
+  pub of_deadlocks : AllZip (IsDeadlockReplay script run) found.deadlocks deadlocks
+  pub written : text ≡ replays_text script.names (races ++ deadlocks)
 
 -- the text is that of the replays of all that is found in the trace that the input says, and whether there is any
 pub record IsReplay (input text : List ℕ) (found : Bool) : Type 0 where

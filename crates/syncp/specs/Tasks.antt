@@ -10,6 +10,7 @@ pub data Task : Type 0 where
   Record : Task
   Witness : (number : ℕ) → Task
   Replay : Task
+  Run : Task
 
 -- the task of a mode and the number of a finding
 abbrev pub task_in : Mode → ℕ → Task
@@ -17,6 +18,7 @@ task_in mode.Predict number = Predict
 task_in mode.Record number = Record
 task_in mode.Witness number = Witness number
 task_in mode.Replay number = Replay
+task_in mode.Run number = Run
 
 -- the task of words
 abbrev pub task_of : Words → Task

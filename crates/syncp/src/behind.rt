@@ -2,7 +2,7 @@
 ghost use Rattle.std.specs.Prelude.{◌≡◌, ◌≤◌, ◌<◌, ◌+◌, ◌^◌, length};
 ghost use Rattle.sp_base.specs.declared.limits.TheConstants.{MAX_INPUT};
 ghost use Rattle.std_text.specs.Framing.{start_with};
-ghost use Rattle.syncp.specs.Replayed.{whole_reading};
+ghost use Rattle.syncp.specs.Output.{whole_reading};
 ghost use Rattle.syncp.specs.Replaying.{ReadsTrace};
 
 use crate::outcome::Fault;

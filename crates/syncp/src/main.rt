@@ -1,5 +1,5 @@
-//! Predicts data races from a trace of lock events, shows how each is met, records such traces from scripts, and takes the
-//! scripts to each race.
+//! Predicts data races from a trace of lock events, shows how each is met, runs scripts on threads and records such traces
+//! of them, and takes the scripts to each race.
 #![tactic(auto)]
 
 mod analyse;
@@ -20,6 +20,10 @@ mod replay_tests;
 mod replay_text;
 mod replays;
 mod run;
+mod run_mode;
+#[cfg(test)]
+mod run_tests;
+mod run_text;
 mod script_text;
 mod show;
 mod status;

@@ -7,12 +7,14 @@ ghost use Rattle.syncp.specs.Modes.{mode_named};
 pub enum Mode {
     /// It reads a trace and writes the report.
     Predict,
-    /// It reads a script and writes the recorded trace.
+    /// It runs scripts on threads and writes the recorded trace.
     Record,
     /// It reads a trace and writes the witness of a finding.
     Witness,
     /// It reads a script and a run of it, and writes the replays of what is found in the run.
     Replay,
+    /// It runs scripts on threads and writes the recorded trace, what is found in it, and how the threads ended.
+    Run,
 }
 
 /// The mode of a word.
@@ -24,6 +26,7 @@ pub fn named(word: &str) -> Option<Mode>
         "record" => Some(Mode::Record),
         "witness" => Some(Mode::Witness),
         "replay" => Some(Mode::Replay),
+        "run" => Some(Mode::Run),
         _ => None,
     }
 }

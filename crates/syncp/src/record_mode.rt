@@ -1,42 +1,36 @@
 // The mode `record`.
-ghost use Rattle.std.specs.Prelude.{◌≡◌, ◌≤◌, ◌⊎◌, ℕ, List, Some, length, MatchResult, OnOk, IsErrOf};
+ghost use Rattle.std.specs.Prelude.{◌≡◌, ◌⊎◌, ℕ, List, Some};
 ghost use Rattle.std.specs.Io.KnownBytes.{IsAtEnd};
 ghost use Rattle.sp_base.specs.Causes.{Rose};
 ghost use Rattle.sp_base.specs.Moves.{Took, Gained};
-ghost use Rattle.sp_base.specs.declared.limits.TheConstants.{MAX_INPUT};
 ghost use Rattle.syncp.specs.Modes.{IsAccepted};
-ghost use Rattle.syncp.specs.Outcome.{Explains, FailsToRead, IsDone};
+ghost use Rattle.syncp.specs.Outcome.{Explains, IsDone};
 ghost use Rattle.syncp.specs.Output.{IsWithinLimit};
-ghost use Rattle.syncp.specs.Recorded.{IsScriptOf};
 ghost use Rattle.syncp.specs.Tasks.{Record};
 
 use crate::outcome::{Fault, Outcome};
-use crate::script_text::script_of;
-use crate::whole_text::whole_text;
+use crate::script_text::read_script;
+use recorder::record;
 use report::write_trace;
 use script_machine::laws::exclusive_law;
-use script_machine::{Recording, Script};
-use sp_base::{Sink, Source, WriteFault};
+use sp_base::{Gate, Sink, Source, WriteFault};
 use std::alloc::Global;
+use std::sync::Wait;
+use std::thread::Threads;
 
-// Reads the source to its end, and answers the script.
-#[tactic(auto, using(crate::proofs::Gathering::gathering_fails, crate::proofs::Gathering::script_fails, crate::proofs::Gathering::script_reads))]
-fn script_in<S: Source>(alloc: Global, source: &mut S) -> Result<Script, Fault>
-    ensures read { Took (S.left source.old) (S.left source.new) (λ input. IsWithinLimit input ×
-        MatchResult result (IsScriptOf input) (λ fault. FailsToRead Record (IsAtEnd (S.left source.new)) fault input)) }
-    ensures ended { OnOk result (IsAtEnd (S.left source.new)) }
-    ensures cause { IsErrOf result Fault.Read → Rose (S.faults source.old) (S.faults source.new) }
-{
-    let text = whole_text(alloc, source)?;
-    script_of(alloc, &text)
-}
-
-/// Reads a script and writes the trace of the run that steps the lowest thread that can step, until none can.
+/// Reads scripts, runs them on threads until none can step, and writes the trace of the run that was recorded. It is one
+/// of the complete legal runs of the scripts, and another call may record another one.
 ///
 /// The source is read to its end before its text is looked at. A refusal of the text comes before anything is written.
 /// `Read` and `Write` come only where the count of faults of the source or of the sink rose; after `Write`, and after want
 /// of memory, a front of the trace's text is written.
-pub fn record_alone<S: Source, K: Sink>(alloc: Global, source: &mut S, out: &mut K) -> Outcome
+pub fn record_scripts<R: Threads + Wait + Sync, S: Source, K: Sink, G: Gate + Sync>(
+    rt: &R,
+    alloc: Global,
+    source: &mut S,
+    out: &mut K,
+    gate: &G,
+) -> Outcome
     // What was read and written explains the outcome.
     ensures outcome { Took (S.left source.old) (S.left source.new) (λ input. IsWithinLimit input ×
         Gained (K.text out.old) (K.text out.new) (Explains Record (IsAtEnd (S.left source.new)) result input)) }
@@ -52,11 +46,11 @@ pub fn record_alone<S: Source, K: Sink>(alloc: Global, source: &mut S, out: &mut
         IsDone result ⊎ (result ≡ Outcome.Refused Fault.OutOfMemory) }
 {
     exclusive_law();
-    let script = match script_in(alloc, source) {
+    let script = match read_script(alloc, source) {
         Ok(script) => script,
         Err(fault) => return Outcome::Refused(fault),
     };
-    let Ok(recording) = Recording::alone(alloc, &script) else {
+    let Ok(recording) = record(rt, alloc, &script, gate) else {
         return Outcome::Refused(Fault::OutOfMemory);
     };
     match write_trace(alloc, out, recording.trace(), script.names()) {

@@ -25,14 +25,14 @@ fn recorded_traces(rt: HostRuntime) -> Result<(), Fail> {
             "T0|acq(A)|2\n",
         ),
         (
-            "a fork and a join",
-            "thread M\nfork W\njoin W\nwrite X\nthread W\nwrite X 1\n",
-            "M|fork(W)|2\nW|w(X)|6\nM|join(W)|3\nM|w(X)|4\n",
+            "a join of a thread that can never step again",
+            "# two threads\nthread M\nfork W\njoin W\nwrite X\nthread W\n\twrite X 1\n\r\nunlock L",
+            "M|fork(W)|3\nW|w(X)|7\n",
         ),
         (
-            "a lock that the lower thread holds",
-            "# two threads\nthread A\nlock L\nunlock L\nthread B\n\tlock L\n\r\nunlock L",
-            "A|acq(L)|3\nA|rel(L)|4\nB|acq(L)|6\nB|rel(L)|8\n",
+            "a fork and a join",
+            "thread M\nwrite X 3\nread X\nadd 2\nwrite X\nfork K\njoin K\nthread K\nlock L\nunlock L\n",
+            "M|w(X)|2\nM|r(X)|3\nM|w(X)|5\nM|fork(K)|6\nK|acq(L)|9\nK|rel(L)|10\nM|join(K)|7\n",
         ),
     ] {
         let left = Left {

@@ -1,6 +1,5 @@
 // The text of the replays of what is found.
 ghost use Rattle.std.specs.Prelude.{◌≡◌, ◌++◌, IfOk, OnOk};
-ghost use Rattle.trace_laws.specs.Stored.{race_of};
 ghost use Rattle.replayer.specs.Replayed.{IsFindingOf, IsReplayOf};
 ghost use Rattle.report.specs.ReachedLines.{reached_line};
 ghost use Rattle.syncp.specs.Predictions.{ArePredictions};
@@ -24,7 +23,7 @@ fn add_replay(
 ) -> Result<(), OutOfMemory>
     requires script { recording.now.machine.script ≡ script.now }
     requires finding { IsFindingOf recording.now.trace finding.now }
-    ensures { OnOk result (AddsReplay script.now recording.now.trace (race_of finding.now) number lines.old lines.new) }
+    ensures { OnOk result (AddsReplay script.now recording.now.trace finding.now number lines.old lines.new) }
 {
     let reached = replay(alloc, script, recording, finding)?;
     // The operands of its calls are in range, as the recording says.

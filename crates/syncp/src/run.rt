@@ -17,7 +17,8 @@ use crate::fault_line::line_of;
 use crate::mode::Mode;
 use crate::outcome::{Fault, Outcome, Status};
 use crate::reach::reach;
-use crate::record_mode::record_alone;
+use crate::record_mode::record_scripts;
+use crate::run_mode::run_scripts;
 use crate::show::show;
 use crate::status::status_of;
 use crate::words::{Words, WordsFault, read_words};
@@ -27,16 +28,17 @@ use std::sync::Wait;
 use std::thread::Threads;
 
 /// Reads the source to its end and writes to `out` what the mode makes of it: `predict` reads a trace and writes the
-/// report, `witness` reads a trace and writes the events that lead to one of its findings, `record` reads a script and
-/// writes the trace that is recorded, `replay` reads a script and a run of it and writes which calls stand side by side at
-/// each finding. The line of a fault goes to `err`.
+/// report, `witness` reads a trace and writes the events that lead to one of its findings, `record` runs scripts on threads
+/// and writes the trace that is recorded, `run` writes behind that trace the report of it, the replays of what is found and
+/// how the threads ended, and `replay` reads scripts and a run of them and writes which calls stand side by side at each
+/// finding. The line of a fault goes to `err`.
 ///
 /// The words are the program's name, the mode and options. Where they have no reading nothing is read or written to
 /// `out`, and `err` gains a text for the user, which is that of help where help was asked for. A refusal of the input
-/// comes at its first fault and before anything is written to `out`; in `record` and `replay` the source is read to its end
-/// first.
+/// comes at its first fault and before anything is written to `out`; in `record`, `run` and `replay` the source is read to
+/// its end first.
 /// The line on `err` is tried once, and a fault there changes no status.
-pub fn run<R: Threads + Wait + Sync, S: Source, K: Sink, E: Sink, G: Gate>(
+pub fn run<R: Threads + Wait + Sync, S: Source, K: Sink, E: Sink, G: Gate + Sync>(
     rt: &R,
     alloc: Global,
     words: &[String],
@@ -83,7 +85,7 @@ fn refuse_words<E: Sink>(err: &mut E, text: &str) -> Status
 }
 
 // Runs a mode, and writes the line of a fault.
-fn run_in<R: Threads + Sync, S: Source, K: Sink, E: Sink, G: Gate>(
+fn run_in<R: Threads + Wait + Sync, S: Source, K: Sink, E: Sink, G: Gate + Sync>(
     rt: &R,
     alloc: Global,
     reading: Words,
@@ -111,7 +113,7 @@ fn run_in<R: Threads + Sync, S: Source, K: Sink, E: Sink, G: Gate>(
 }
 
 // What a mode comes to.
-fn outcome_of<R: Threads + Sync, S: Source, K: Sink, G: Gate>(
+fn outcome_of<R: Threads + Wait + Sync, S: Source, K: Sink, G: Gate + Sync>(
     rt: &R,
     alloc: Global,
     reading: Words,
@@ -131,8 +133,9 @@ fn outcome_of<R: Threads + Sync, S: Source, K: Sink, G: Gate>(
 {
     match reading.mode {
         Mode::Predict => analyse(rt, alloc, reading.size, reading.workers, source, out, gate),
-        Mode::Record => record_alone(alloc, source, out),
+        Mode::Record => record_scripts(rt, alloc, source, out, gate),
         Mode::Replay => reach(rt, alloc, reading.size, reading.workers, source, out, gate),
+        Mode::Run => run_scripts(rt, alloc, reading.size, reading.workers, source, out, gate),
         Mode::Witness => show(
             rt,
             alloc,

@@ -1,11 +1,20 @@
 // The script of a text.
-ghost use Rattle.std.specs.Prelude.{◌≤◌, length, MatchResult};
+ghost use Rattle.std.specs.Prelude.{◌≡◌, ◌≤◌, length, MatchResult, OnOk, IsErrOf};
+ghost use Rattle.std.specs.Io.KnownBytes.{IsAtEnd};
+ghost use Rattle.sp_base.specs.Causes.{Rose};
+ghost use Rattle.sp_base.specs.Moves.{Took};
 ghost use Rattle.sp_base.specs.declared.limits.TheConstants.{MAX_INPUT};
 ghost use Rattle.script_machine.specs.ScriptText.{Scripts};
+ghost use Rattle.syncp.specs.Outcome.{FailsToRead};
+ghost use Rattle.syncp.specs.Output.{IsWithinLimit};
+ghost use Rattle.syncp.specs.Recorded.{IsScriptOf};
 ghost use Rattle.syncp.specs.Replaying.{FailsToScript};
+ghost use Rattle.syncp.specs.Tasks.{Record};
 
 use crate::outcome::Fault;
+use crate::whole_text::whole_text;
 use script_machine::{Script, ScriptError};
+use sp_base::Source;
 use std::alloc::Global;
 
 /// The script of a text, which is no longer than an input may be, or its first fault. The only other error is want of memory.
@@ -18,4 +27,17 @@ pub fn script_of(alloc: Global, text: &[u8]) -> Result<Script, Fault>
         Err(ScriptError::Fault(fault)) => Err(Fault::Script(fault)),
         Err(ScriptError::OutOfMemory) => Err(Fault::OutOfMemory),
     }
+}
+
+/// Reads a source to its end, and answers the script of its text. `Read` comes only where the source's count of faults
+/// rose.
+#[tactic(auto, using(crate::proofs::Gathering::gathering_fails, crate::proofs::Gathering::script_fails, crate::proofs::Gathering::script_reads))]
+pub fn read_script<S: Source>(alloc: Global, source: &mut S) -> Result<Script, Fault>
+    ensures read { Took (S.left source.old) (S.left source.new) (λ input. IsWithinLimit input ×
+        MatchResult result (IsScriptOf input) (λ fault. FailsToRead Record (IsAtEnd (S.left source.new)) fault input)) }
+    ensures ended { OnOk result (IsAtEnd (S.left source.new)) }
+    ensures cause { IsErrOf result Fault.Read → Rose (S.faults source.old) (S.faults source.new) }
+{
+    let text = whole_text(alloc, source)?;
+    script_of(alloc, &text)
 }

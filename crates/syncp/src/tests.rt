@@ -3,7 +3,7 @@ ghost use Rattle.std.specs.Prelude.{◌<◌};
 
 use crate::outcome::Status;
 use crate::run::run;
-use sp_base::{MemSink, MemSource, OpenGate};
+use sp_base::{Gate, MemSink, MemSource, OpenGate};
 use std::alloc::{AllocError, Global};
 use std::sync::Wait;
 use std::test::Fail;
@@ -66,6 +66,33 @@ fn is_left(status: Status, out: &MemSink, err: &MemSink, left: &Left) -> bool {
     status.code() == left.code && out.text() == left.out && err.text() == left.err
 }
 
+/// What a run left.
+#[derive(Drop)]
+pub(crate) struct Ran {
+    pub status: Status,
+    pub out: MemSink,
+    pub err: MemSink,
+}
+
+/// Runs words on a text in pieces, where nothing of the outside fails.
+pub(crate) fn ran_by<R: Threads + Wait + Sync, G: Gate + Sync>(
+    rt: &R,
+    alloc: Global,
+    texts: &[&str],
+    text: &[u8],
+    piece: u32,
+    gate: &G,
+) -> Result<Ran, AllocError>
+    requires { 0 < piece }
+{
+    let words = words(alloc, texts)?;
+    let mut source = source(alloc, text, piece, &[])?;
+    let mut out = sink(alloc, 1_000, &[])?;
+    let mut err = sink(alloc, 1_000, &[])?;
+    let status = run(rt, alloc, &words, &mut source, &mut out, &mut err, gate);
+    Ok(Ran { status, out, err })
+}
+
 /// Whether words leave this for a text in pieces, where nothing of the outside fails.
 pub(crate) fn leaves_by<R: Threads + Wait + Sync>(
     rt: &R,
@@ -77,20 +104,8 @@ pub(crate) fn leaves_by<R: Threads + Wait + Sync>(
 ) -> Result<bool, AllocError>
     requires { 0 < piece }
 {
-    let words = words(alloc, texts)?;
-    let mut source = source(alloc, text, piece, &[])?;
-    let mut out = sink(alloc, 1_000, &[])?;
-    let mut err = sink(alloc, 1_000, &[])?;
-    let status = run(
-        rt,
-        alloc,
-        &words,
-        &mut source,
-        &mut out,
-        &mut err,
-        &OpenGate,
-    );
-    Ok(is_left(status, &out, &err, left))
+    let ran = ran_by(rt, alloc, texts, text, piece, &OpenGate)?;
+    Ok(is_left(ran.status, &ran.out, &ran.err, left))
 }
 
 /// Whether a mode leaves this for a text in pieces, where nothing of the outside fails.

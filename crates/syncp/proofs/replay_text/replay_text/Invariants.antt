@@ -1,7 +1,6 @@
-use Rattle.std.proofs.Common.{take}
 use Rattle.syncp.proofs.Replaying.{AreReplayed}
 use Rattle.syncp.proofs.replay_text.replay_text.Given as goal
 
 -- the replays so far
 abbrev pub invariant-loop-number : goal.invariant-loop-number
-invariant-loop-number l = AreReplayed l.script l.recording.trace (take l.number l.findings.races) l.lines
+invariant-loop-number l = AreReplayed l.script l.recording.trace l.findings l.number l.lines

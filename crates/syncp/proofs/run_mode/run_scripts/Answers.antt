@@ -1,0 +1,19 @@
+use Rattle.std.proofs.Common.{ap, subst, Err, []}
+use Rattle.std.specs.Io.KnownBytes.{Consumes}
+use Rattle.std.proofs.KnownBytes.{Appends-nil}
+use Rattle.syncp.specs.Tasks.{Run}
+use Rattle.syncp.proofs.Ran.{nothing_written, reading_completes, run_not_refused}
+use Rattle.syncp.proofs.run_mode.run_scripts.Goals as goal
+
+pub returns-in-Err-clause-complete : goal.returns-in-Err-clause-complete
+returns-in-Err-clause-complete g c = λ all left std kept_source kept_out.
+    let read = c.in-Err.ensures.read in
+    let rest = g.S.Source.left c.run_source.new.source in
+    let took = subst (λ o. Consumes o rest read.0) left read.1 in
+    let never = run_not_refused c.exclusive_law.ensures c.in-Err.fault rest all read.0 took std in
+    reading_completes Run _ read.0 c.in-Err.fault never read.2.1 (λ is. kept_source (c.in-Err.ensures.cause (ap Err is)))
+
+pub returns-in-Err-clause-outcome : goal.returns-in-Err-clause-outcome
+returns-in-Err-clause-outcome g c =
+    let read = c.in-Err.ensures.read in
+    (read.0, read.1, (read.2.0, ([], Appends-nil _, nothing_written Run _ c.in-Err.fault read.0 read.2.1)))
