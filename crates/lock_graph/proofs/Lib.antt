@@ -1,0 +1,5 @@
+pub mod Alike
+pub mod Noting
+pub mod Keys
+pub mod Whole
+pub mod Reading

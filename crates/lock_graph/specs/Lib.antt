@@ -1,0 +1,3 @@
+pub mod Classes
+pub mod Listing
+pub mod Graphs

@@ -1,0 +1,13 @@
+//! The classes of a trace's acquires, and which class can follow which in a cycle.
+//!
+//! A class, an abstract acquire of Tunç, Mathur, Pavlogiannis and Viswanathan (PLDI 2023), is a thread, a lock and a held
+//! set, with the acquires that have them. `Classes` lists all classes of a trace in the order of their first places.
+#![tactic(auto)]
+
+mod classes;
+mod entry;
+mod listing;
+#[cfg(test)]
+mod tests;
+
+pub use classes::Classes;
