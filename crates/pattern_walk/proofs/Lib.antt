@@ -1,0 +1,11 @@
+pub mod Lists
+pub mod PatternCycles
+pub mod Preceding
+pub mod Counted
+pub mod Ordering
+pub mod Nearing
+pub mod Walking
+pub mod Extending
+pub mod Raising
+pub mod Picking
+pub mod Moving

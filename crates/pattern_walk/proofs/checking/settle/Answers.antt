@@ -1,0 +1,7 @@
+use Rattle.std.proofs.Common.{◌<◌, length, sym, subst}
+use Rattle.trace_laws.specs.Traces.{History}
+use Rattle.pattern_walk.proofs.Picking.{picks_within}
+use Rattle.pattern_walk.proofs.checking.settle.Goals as goal
+
+pub first_inside-requires : goal.first_inside-requires
+first_inside-requires c = λ a m. subst (λ (h : History). a < length h.events) (sym c.loop-i.invariant.underway.trace) (picks_within c.args.classes.now c.args.pattern.now c.requires.pattern c.loop-i.instance.positions.items c.loop-i.instance.picks.items c.loop-i.invariant.underway.at a m)

@@ -1,0 +1,25 @@
+use Rattle.std.proofs.Common.{get_or}
+use Rattle.std.proofs.lemmas.List.Elements.{Contains-get_or}
+use Rattle.pattern_walk.proofs.Moving.{number_within, acquires_within, none_read, nearer_read, moves_read}
+use Rattle.pattern_walk.proofs.instance.Instance.advance.Goals as goal
+
+pub acquires-acquires-requires : goal.acquires-acquires-requires
+acquires-acquires-requires c = number_within c.args.classes.now c.args.pattern.now c.requires.pattern c.args.self.now.positions.items c.args.self.now.picks.items c.args.cursor.now c.requires.underway c.classes.result.now c.args.i c.classes.ensures c.requires.number
+
+pub first_outside-requires : goal.first_outside-requires
+first_outside-requires c = acquires_within c.args.classes.now c.args.pattern.now c.requires.pattern c.args.self.now.positions.items c.args.self.now.picks.items c.args.cursor.now c.requires.underway c.classes.result.now c.args.i c.classes.ensures c.requires.number c.acquires-acquires.result.now c.index.result.now c.acquires-acquires.ensures c.index.ensures
+
+pub returns-in_default-clause-none : goal.returns-in_default-clause-none
+returns-in_default-clause-none c = λ is. none_read c.args.classes.now c.args.pattern.now c.requires.pattern c.args.self.now.positions.items c.args.self.now.picks.items c.args.cursor.now c.requires.underway c.classes.result.now c.args.i c.classes.ensures c.requires.number c.acquires-acquires.result.now c.index.result.now c.acquires-acquires.ensures c.index.ensures c.in_default.ensures.none
+
+pub raise-requires : goal.raise-requires
+raise-requires c =
+    let acquires = c.acquires-acquires.result.now in
+    let pick = get_or acquires c.in-Some.position 0 in
+    acquires_within c.args.classes.now c.args.pattern.now c.requires.pattern c.args.self.now.positions.items c.args.self.now.picks.items c.args.cursor.now c.requires.underway c.classes.result.now c.args.i c.classes.ensures c.requires.number acquires c.index.result.now c.acquires-acquires.ensures c.index.ensures pick (Contains-get_or acquires c.in-Some.position 0 c.in-Some.ensures.position)
+
+pub returns-clause-underway : goal.returns-clause-underway
+returns-clause-underway c = λ is. moves_read c.args.classes.now c.args.pattern.now c.requires.pattern c.args.self.now.positions.items c.args.self.now.picks.items c.args.cursor.now c.requires.underway c.classes.result.now c.args.i c.classes.ensures c.requires.number c.acquires-acquires.result.now c.index.result.now c.acquires-acquires.ensures c.index.ensures c.in-Some.position c.in-Some.ensures.position c.in-Some.ensures.from c.in-Some.ensures.passed c.requires.inside c.in-Some.ensures.outside c.raise.new.self c.raise.ensures.trace c.raise.ensures.closure
+
+pub returns-clause-further : goal.returns-clause-further
+returns-clause-further c = λ is. nearer_read c.args.classes.now c.args.pattern.now c.requires.pattern c.args.self.now.positions.items c.args.self.now.picks.items c.args.cursor.now c.requires.underway c.classes.result.now c.args.i c.classes.ensures c.requires.number c.acquires-acquires.result.now c.index.result.now c.acquires-acquires.ensures c.index.ensures c.in-Some.position c.in-Some.ensures.position c.in-Some.ensures.from c.in-Some.ensures.passed c.requires.inside c.in-Some.ensures.outside

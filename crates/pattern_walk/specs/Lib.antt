@@ -1,0 +1,6 @@
+pub mod Cycles
+pub mod Orders
+pub mod Nearness
+pub mod Walks
+pub mod Listed
+pub mod Instances

@@ -1,0 +1,35 @@
+-- For each lock the classes that hold it, and the locks that are held where it is taken.
+use Rattle.std.specs.Prelude.{◌≡◌, ◌<◌, ◌↔◌, ◌++◌, ◌∷◌, [], ℕ, List, Vec, Some, length, slice_get, Contains}
+use Rattle.std.specs.declared.alloc.Global.{Global}
+use Rattle.sp_base.specs.declared.limits.TheConstants.{MAX_LOCKS}
+use Rattle.trace_laws.specs.Reordering.{Rises}
+use Rattle.trace_laws.specs.Patterns.{Class}
+use Rattle.pattern_walk.specs.Cycles.{class_of}
+
+-- the class comes last in the list of each of these locks, and all other lists stay
+pub record Adds (old : List (Vec ℕ Global)) (locks : List ℕ) (class : ℕ) (new : List (Vec ℕ Global)) : Type 0 where
+  pub size : length new ≡ length old
+  pub added : (l : ℕ) (v w : Vec ℕ Global) → Contains locks l → slice_get old l ≡ Some v → slice_get new l ≡ Some w → w.items ≡ v.items ++ class ∷ []
+  pub same : (l : ℕ) → (Contains locks l → ⊥) → slice_get new l ≡ slice_get old l
+
+-- the class comes last in the list of each of the first k of these locks, and all other lists stay
+pub record AddsBelow (old : List (Vec ℕ Global)) (locks : List ℕ) (class k : ℕ) (new : List (Vec ℕ Global)) : Type 0 where
+  pub size : length new ≡ length old
+  pub added : (j l : ℕ) (v w : Vec ℕ Global) → j < k → slice_get locks j ≡ Some l → slice_get old l ≡ Some v → slice_get new l ≡ Some w → w.items ≡ v.items ++ class ∷ []
+  pub same : (l : ℕ) → ((j : ℕ) → j < k → slice_get locks j ≡ Some l → ⊥) → slice_get new l ≡ slice_get old l
+
+-- the list has exactly the classes below n that hold the lock, in the order of their numbers
+pub record AreHoldersOf (classes : List Class) (n lock : ℕ) (holders : List ℕ) : Type 0 where
+  pub order : Rises holders
+  pub members : (c : ℕ) → Contains holders c ↔ ((c < n) × Contains (class_of classes c).held lock)
+
+-- for each lock the classes below n that hold it
+pub record AreHolders (classes : List Class) (n : ℕ) (holders : List (Vec ℕ Global)) : Type 0 where
+  pub locks : length holders ≡ MAX_LOCKS
+  pub each : (l : ℕ) (v : Vec ℕ Global) → slice_get holders l ≡ Some v → AreHoldersOf classes n l v.items
+
+-- for each lock the locks that some class below n holds which takes it
+pub record AreBefore (classes : List Class) (n : ℕ) (before : List (Vec ℕ Global)) : Type 0 where
+  pub locks : length before ≡ MAX_LOCKS
+  pub all : (c h : ℕ) (v : Vec ℕ Global) → c < n → Contains (class_of classes c).held h → slice_get before (class_of classes c).lock ≡ Some v → Contains v.items h
+  pub below : (l h : ℕ) (v : Vec ℕ Global) → slice_get before l ≡ Some v → Contains v.items h → h < MAX_LOCKS

@@ -1,0 +1,122 @@
+// An instance of a pattern that moves on to later acquires.
+ghost use Rattle.std.specs.Prelude.{ℕ, ◌≡◌, ◌<◌, ◌≤◌, length, slice_get, slice_index, Some, Contains, IfNone, IfSome, IfOk, IsTrue, true, false};
+ghost use Rattle.std.specs.Bool.{IsFalse};
+ghost use Rattle.trace_laws.specs.Closed.{IsClosureBefore, AreOutside};
+ghost use Rattle.sp_closure.specs.Members.{has};
+ghost use Rattle.pattern_walk.specs.Cycles.{classes_of};
+ghost use Rattle.pattern_walk.specs.Instances.{IsOf, IsAt, AreInSet, IsUnderway, HasNoDeadlock, AreFirst, rest_of};
+
+use crate::patterns::Pattern;
+use lock_graph::Classes;
+use sp_base::OutOfMemory;
+use sp_closure::Cursor;
+use std::alloc::Global;
+
+/// An instance of a pattern: for each class its pick, and the pick's position among the acquires of the class.
+#[derive(Drop)]
+pub struct Instance {
+    positions: Vec<usize>,
+    pub picks: Vec<u32>,
+}
+
+// The position of the first acquire from one on that is not in the set of the cursor.
+fn first_outside(acquires: &[u32], cursor: &Cursor<'_>, from: usize) -> Option<usize>
+    requires { (a : ℕ) → Contains acquires.now a → a < length cursor.now.trace.events }
+    ensures none { IfNone result (AreInSet (has cursor.now.members) acquires.now from (length acquires.now)) }
+    ensures passed { IfSome result (λ k. AreInSet (has cursor.now.members) acquires.now from k) }
+    ensures position { IfSome result (λ k. k < length acquires.now) }
+    ensures from { IfSome result (λ k. from ≤ k) }
+    ensures outside { IfSome result (λ k. has cursor.now.members (slice_index acquires.now k) ≡ false) }
+{
+    for position in from..acquires.len() {
+        if !cursor.has(acquires[position]) {
+            return Some(position);
+        }
+    }
+    None
+}
+
+impl Instance {
+    /// The instance of the first acquires. The only error is want of memory.
+    pub fn first(
+        alloc: Global,
+        pattern: &Pattern,
+        classes: &Classes<'_>,
+    ) -> Result<Instance, OutOfMemory>
+        requires { IsOf classes.now pattern.now }
+        ensures at { IfOk result (λ i. IsAt classes.now.classes pattern.now i.positions.items i.picks.items) }
+        ensures first { IfOk result (λ i. AreFirst i.positions.items) }
+    {
+        let mut instance = Instance {
+            positions: Vec::new(alloc),
+            picks: Vec::new(alloc),
+        };
+        let numbers = pattern.classes();
+        for &class in numbers {
+            let Ok(()) = instance.positions.push(0) else {
+                return Err(OutOfMemory);
+            };
+            let acquires = classes.acquires(class);
+            let Ok(()) = instance.picks.push(acquires[0]) else {
+                return Err(OutOfMemory);
+            };
+        }
+        Ok(instance)
+    }
+
+    /// The set of the cursor, which is emptied first, becomes the closure of the places before the picks.
+    pub fn raise_all(&self, cursor: &mut Cursor<'_>)
+        requires { (a : ℕ) → Contains self.now.picks.items a → a < length cursor.old.trace.events }
+        ensures trace { cursor.new.trace ≡ cursor.old.trace }
+        ensures closure { IsClosureBefore cursor.old.trace.events self.now.picks.items (has cursor.new.members) }
+    {
+        cursor.reset();
+        for &pick in &self.picks {
+            cursor.raise(pick);
+        }
+    }
+
+    /// The number of the first pick that is in the set of the cursor.
+    pub fn first_inside(&self, cursor: &Cursor<'_>) -> Option<usize>
+        requires { (a : ℕ) → Contains self.now.picks.items a → a < length cursor.now.trace.events }
+        ensures none { IfNone result (AreOutside self.now.picks.items (has cursor.now.members)) }
+        ensures within { IfSome result (λ i. i < length self.now.picks.items) }
+        ensures inside { IfSome result (λ i. has cursor.now.members (slice_index self.now.picks.items i) ≡ true) }
+    {
+        for (i, &pick) in self.picks.iter().enumerate() {
+            if cursor.has(pick) {
+                return Some(i);
+            }
+        }
+        None
+    }
+
+    /// Moves a pick that is in the set of the cursor on to the first later acquire of its class that is not, and raises the
+    /// set by it. Where there is none, the pattern has no deadlock.
+    pub fn advance(
+        &mut self,
+        pattern: &Pattern,
+        classes: &Classes<'_>,
+        cursor: &mut Cursor<'_>,
+        i: usize,
+    ) -> bool
+        requires pattern { IsOf classes.now pattern.now }
+        requires underway { IsUnderway classes.now pattern.now self.old.positions.items self.old.picks.items cursor.old }
+        requires number { i < length self.old.picks.items }
+        requires inside { has cursor.old.members (slice_index self.old.picks.items i) ≡ true }
+        ensures trace { cursor.new.trace ≡ cursor.old.trace }
+        ensures underway { IsTrue result → IsUnderway classes.now pattern.now self.new.positions.items self.new.picks.items cursor.new }
+        ensures further { IsTrue result → rest_of (length classes.now.trace.events) self.new.picks.items < rest_of (length classes.now.trace.events) self.old.picks.items }
+        ensures none { IsFalse result → HasNoDeadlock classes.now.trace.events (classes_of classes.now.classes pattern.now) }
+    {
+        let acquires = classes.acquires(pattern.classes()[i]);
+        let Some(position) = first_outside(acquires, cursor, self.positions[i]) else {
+            return false;
+        };
+        let pick = acquires[position];
+        self.positions[i] = position;
+        self.picks[i] = pick;
+        cursor.raise(pick);
+        true
+    }
+}
