@@ -13,9 +13,8 @@ use Rattle.std_text.specs.Refusal.{Refusal}
 use Rattle.std_text.specs.declared.fault.ReadFault.{ReadFault}
 use Rattle.std_text.specs.declared.fault.ReadFault.TheVariants as read
 use Rattle.syncp.specs.declared.outcome.Fault.{Fault}
-use Rattle.syncp.specs.declared.outcome.Fault.TheVariants.{Text, Script, NotAStep, NoFinding, Read, Write, OutOfMemory}
-use Rattle.syncp.specs.Tasks.{Predict}
-use Rattle.syncp.specs.Outcome.{FailsToRead, GoesOn, Ends, IsReadFrom}
+use Rattle.syncp.specs.declared.outcome.Fault.TheVariants.{Text, Script, NotAStep, TooManyPatterns, NoFinding, Read, Write, OutOfMemory}
+use Rattle.syncp.specs.Outcome.{FailsToReadTrace, GoesOn, Ends, IsReadFrom}
 use Rattle.syncp.specs.Output.{IsWithinLimit}
 use Rattle.syncp.specs.Faults.{TellsFault, TellsRefusal}
 use Rattle.std_text.proofs.TextPieces.{after_append, after_none, after_fits}
@@ -77,6 +76,7 @@ tells_refusal : (e : ReadFault) (f : Fault) (names : NameLists) (x : Result Prog
 tells_refusal (read.Text e) (Text f holder) names x failed tells = failed.0 ∙ ap Err (sym tells)
 tells_refusal (read.Text e) (Script g) names x failed tells = absurd tells
 tells_refusal (read.Text e) (NotAStep place) names x failed tells = absurd tells
+tells_refusal (read.Text e) TooManyPatterns names x failed tells = absurd tells
 tells_refusal (read.Text e) NoFinding names x failed tells = absurd tells
 tells_refusal (read.Text e) Read names x failed tells = absurd tells
 tells_refusal (read.Text e) Write names x failed tells = absurd tells
@@ -84,6 +84,7 @@ tells_refusal (read.Text e) OutOfMemory names x failed tells = tt
 tells_refusal read.OutOfMemory (Text f holder) names x failed tells = absurd tells
 tells_refusal read.OutOfMemory (Script g) names x failed tells = absurd tells
 tells_refusal read.OutOfMemory (NotAStep place) names x failed tells = absurd tells
+tells_refusal read.OutOfMemory TooManyPatterns names x failed tells = absurd tells
 tells_refusal read.OutOfMemory NoFinding names x failed tells = absurd tells
 tells_refusal read.OutOfMemory Read names x failed tells = absurd tells
 tells_refusal read.OutOfMemory Write names x failed tells = absurd tells
@@ -130,10 +131,11 @@ module _ (old now new : Option (List ℕ)) (before mid taken : ℕ) (told : Told
       }
 
   -- the piece was refused
-  pub refused_by : (f : Fault) (next : Told) (Ended : Type 0) → ((p : Progress) → told.read ≡ Ok p → GoesOn (after p piece) next (Err f)) → FailsToRead Predict Ended f (c.input ++ piece)
+  pub refused_by : (f : Fault) (next : Told) (Ended : Type 0) → ((p : Progress) → told.read ≡ Ok p → GoesOn (after p piece) next (Err f)) → FailsToReadTrace Ended f (c.input ++ piece)
   refused_by (Text f holder) next Ended goes = inl (step_is ∙ goes c.at c.read)
   refused_by (Script g) next Ended goes = absurd (goes c.at c.read)
   refused_by (NotAStep place) next Ended goes = absurd (goes c.at c.read)
+  refused_by TooManyPatterns next Ended goes = absurd (goes c.at c.read)
   refused_by NoFinding next Ended goes = absurd (goes c.at c.read)
   refused_by Read next Ended goes = absurd (goes c.at c.read)
   refused_by Write next Ended goes = absurd (goes c.at c.read)
@@ -146,6 +148,7 @@ ended_at old now before mid taken told c (Ok answer) Ended ended ends = let e = 
 ended_at old now before mid taken told c (Err (Text f holder)) Ended ended ends = inr (ended, rw c.reads (ends c.at c.read))
 ended_at old now before mid taken told c (Err (Script g)) Ended ended ends = absurd (ends c.at c.read)
 ended_at old now before mid taken told c (Err (NotAStep place)) Ended ended ends = absurd (ends c.at c.read)
+ended_at old now before mid taken told c (Err TooManyPatterns) Ended ended ends = absurd (ends c.at c.read)
 ended_at old now before mid taken told c (Err NoFinding) Ended ended ends = absurd (ends c.at c.read)
 ended_at old now before mid taken told c (Err Read) Ended ended ends = absurd (ends c.at c.read)
 ended_at old now before mid taken told c (Err Write) Ended ended ends = absurd (ends c.at c.read)

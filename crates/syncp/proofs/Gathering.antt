@@ -6,7 +6,7 @@ use Rattle.std.proofs.KnownBytes.{Consumes-trans, Consumes-nil}
 use Rattle.sp_base.specs.declared.limits.TheConstants.{MAX_INPUT}
 use Rattle.syncp.specs.Tasks.{Record, Replay}
 use Rattle.syncp.specs.declared.outcome.Fault.{Fault}
-use Rattle.syncp.specs.declared.outcome.Fault.TheVariants.{Text, Script, NotAStep, NoFinding, Read, Write, OutOfMemory}
+use Rattle.syncp.specs.declared.outcome.Fault.TheVariants.{Text, Script, NotAStep, TooManyPatterns, NoFinding, Read, Write, OutOfMemory}
 use Rattle.syncp.specs.Outcome.{FailsToRead, FailsToGather}
 use Rattle.syncp.specs.Replaying.{FailsToReplay, FailsToScript}
 
@@ -34,46 +34,51 @@ pub gathering_fails : (Ended : Type 0) (f : Fault) (input : List ℕ) → FailsT
 gathering_fails Ended (Text f holder) input fails = fails
 gathering_fails Ended (Script f) input fails = absurd fails
 gathering_fails Ended (NotAStep place) input fails = absurd fails
+gathering_fails Ended TooManyPatterns input fails = absurd fails
 gathering_fails Ended NoFinding input fails = absurd fails
 gathering_fails Ended Read input fails = fails
 gathering_fails Ended Write input fails = absurd fails
 gathering_fails Ended OutOfMemory input fails = tt
 
 -- and so it is where a trace stands behind the script
-pub gathering_fails_to_replay : (Ended : Type 0) (f : Fault) (input : List ℕ) → FailsToGather f input → FailsToRead Replay Ended f input
-gathering_fails_to_replay Ended (Text f holder) input fails = inl fails
-gathering_fails_to_replay Ended (Script f) input fails = absurd fails
-gathering_fails_to_replay Ended (NotAStep place) input fails = absurd fails
-gathering_fails_to_replay Ended NoFinding input fails = absurd fails
-gathering_fails_to_replay Ended Read input fails = fails
-gathering_fails_to_replay Ended Write input fails = absurd fails
-gathering_fails_to_replay Ended OutOfMemory input fails = tt
+pub gathering_fails_to_replay : (Ended : Type 0) (size : ℕ) (f : Fault) (input : List ℕ) → FailsToGather f input → FailsToRead (Replay size) Ended f input
+gathering_fails_to_replay Ended size (Text f holder) input fails = inl fails
+gathering_fails_to_replay Ended size (Script f) input fails = absurd fails
+gathering_fails_to_replay Ended size (NotAStep place) input fails = absurd fails
+gathering_fails_to_replay Ended size TooManyPatterns input fails = absurd fails
+gathering_fails_to_replay Ended size NoFinding input fails = absurd fails
+gathering_fails_to_replay Ended size Read input fails = fails
+gathering_fails_to_replay Ended size Write input fails = absurd fails
+gathering_fails_to_replay Ended size OutOfMemory input fails = tt
 
--- a fault of the script, of the trace or of a step is one of the mode, once all is gathered
-pub replay_fails : (Ended : Type 0) → Ended → (f : Fault) (input : List ℕ) → FailsToReplay f input → FailsToRead Replay Ended f input
-replay_fails Ended ended (Text f holder) input fails = inr (fails, ended)
-replay_fails Ended ended (Script f) input fails = (fails.0, fails.1, ended)
-replay_fails Ended ended (NotAStep place) input fails = (fails, ended)
-replay_fails Ended ended NoFinding input fails = absurd fails
-replay_fails Ended ended Read input fails = absurd fails
-replay_fails Ended ended Write input fails = absurd fails
-replay_fails Ended ended OutOfMemory input fails = tt
+-- a fault of the script, of the trace, of a step or for the patterns is one of the mode, once all is gathered
+pub replay_fails : (Ended : Type 0) → Ended → (size : ℕ) (f : Fault) (input : List ℕ) → FailsToReplay size f input → FailsToRead (Replay size) Ended f input
+replay_fails Ended ended size (Text f holder) input fails = inr (fails, ended)
+replay_fails Ended ended size (Script f) input fails = (fails.0, fails.1, ended)
+replay_fails Ended ended size (NotAStep place) input fails = (fails, ended)
+replay_fails Ended ended size TooManyPatterns input fails = (fails, ended)
+replay_fails Ended ended size NoFinding input fails = absurd fails
+replay_fails Ended ended size Read input fails = absurd fails
+replay_fails Ended ended size Write input fails = absurd fails
+replay_fails Ended ended size OutOfMemory input fails = tt
 
 -- it is no fault of the source
-pub replay_reads : (f : Fault) (input : List ℕ) → FailsToReplay f input → f ≡ Read → ⊥
-replay_reads (Text f holder) input fails is = cc
-replay_reads (Script f) input fails is = cc
-replay_reads (NotAStep place) input fails is = cc
-replay_reads NoFinding input fails is = fails
-replay_reads Read input fails is = fails
-replay_reads Write input fails is = fails
-replay_reads OutOfMemory input fails is = cc
+pub replay_reads : (size : ℕ) (f : Fault) (input : List ℕ) → FailsToReplay size f input → f ≡ Read → ⊥
+replay_reads size (Text f holder) input fails is = cc
+replay_reads size (Script f) input fails is = cc
+replay_reads size (NotAStep place) input fails is = cc
+replay_reads size TooManyPatterns input fails is = cc
+replay_reads size NoFinding input fails is = fails
+replay_reads size Read input fails is = fails
+replay_reads size Write input fails is = fails
+replay_reads size OutOfMemory input fails is = cc
 
 -- a fault of a script is one of its mode, once all is gathered
 pub script_fails : (Ended : Type 0) → Ended → (f : Fault) (text : List ℕ) → length text ≤ MAX_INPUT → FailsToScript f text → FailsToRead Record Ended f text
 script_fails Ended ended (Text f holder) text few fails = absurd fails
 script_fails Ended ended (Script f) text few fails = (few, fails, ended)
 script_fails Ended ended (NotAStep place) text few fails = absurd fails
+script_fails Ended ended TooManyPatterns text few fails = absurd fails
 script_fails Ended ended NoFinding text few fails = absurd fails
 script_fails Ended ended Read text few fails = absurd fails
 script_fails Ended ended Write text few fails = absurd fails
@@ -84,6 +89,7 @@ pub script_reads : (f : Fault) (text : List ℕ) → FailsToScript f text → f 
 script_reads (Text f holder) text fails is = fails
 script_reads (Script f) text fails is = cc
 script_reads (NotAStep place) text fails is = fails
+script_reads TooManyPatterns text fails is = fails
 script_reads NoFinding text fails is = fails
 script_reads Read text fails is = fails
 script_reads Write text fails is = fails

@@ -5,7 +5,6 @@ use Rattle.sp_base.specs.declared.limits.TheConstants.{MAX_INPUT}
 use Rattle.trace_laws.specs.Findings.{Found}
 use Rattle.trace_laws.specs.Locations.{LocationsDoNotCount}
 use Rattle.trace_laws.specs.Names.{NameLists}
-use Rattle.trace_laws.specs.Traces.{History}
 use Rattle.std_text.specs.Framing.{Progress, start_with, after, closed}
 use Rattle.std_text.specs.Refusal.{◌>>=◌}
 use Rattle.script_machine.specs.Held.{meaning}
@@ -18,27 +17,18 @@ use Rattle.syncp.specs.Faults.{TellsRefusal}
 use Rattle.syncp.specs.Inputs.{scripts_in, trace_in, trace_line}
 use Rattle.syncp.specs.Predictions.{ArePredictions}
 use Rattle.syncp.specs.Recorded.{newlines}
-use Rattle.syncp.specs.Replayed.{Says, IsReplay, WritesReplays, reading_behind, run_of}
+use Rattle.syncp.specs.Replayed.{Says, SaysRun, IsReplay, WritesReplays, reading_behind, run_of}
 use Rattle.syncp.specs.Replaying.{FailsToReplay, FailsToScript, Records, ReplaysRun}
 use Rattle.syncp.proofs.Recordings.{leads_to, trace_is_run}
 
--- want of memory while a recording is replayed
-pub replay_refused : (script : Script) (run : History) (f : Fault) (input : List ℕ) → ReplaysRun script run (Err f) → FailsToReplay f input
-replay_refused script run (fault.Text f holder) input fails = absurd fails
-replay_refused script run (fault.Script f) input fails = absurd fails
-replay_refused script run (fault.NotAStep place) input fails = absurd fails
-replay_refused script run fault.NoFinding input fails = absurd fails
-replay_refused script run fault.Read input fails = absurd fails
-replay_refused script run fault.Write input fails = absurd fails
-replay_refused script run fault.OutOfMemory input fails = tt
-
--- The parts of an input, and the number of the trace's first line.
-module _ (input scripts trace : List ℕ) (line : ℕ) (few : length input ≤ MAX_INPUT) (scripts_are : scripts ≡ scripts_in input) (trace_is : trace ≡ trace_in input) (line_is : line ≡ newlines scripts + 2) where
+-- The size of patterns, the parts of an input, and the number of the trace's first line.
+module _ (size : ℕ) (input scripts trace : List ℕ) (line : ℕ) (few : length input ≤ MAX_INPUT) (scripts_are : scripts ≡ scripts_in input) (trace_is : trace ≡ trace_in input) (line_is : line ≡ newlines scripts + 2) where
   -- a refused script
-  pub script_refused : (f : Fault) → FailsToScript f scripts → FailsToReplay f input
+  pub script_refused : (f : Fault) → FailsToScript f scripts → FailsToReplay size f input
   script_refused (fault.Text f holder) fails = absurd fails
   script_refused (fault.Script f) fails = (few, subst (λ text. FirstFault text f) scripts_are fails)
   script_refused (fault.NotAStep place) fails = absurd fails
+  script_refused fault.TooManyPatterns fails = absurd fails
   script_refused fault.NoFinding fails = absurd fails
   script_refused fault.Read fails = absurd fails
   script_refused fault.Write fails = absurd fails
@@ -58,10 +48,11 @@ module _ (input scripts trace : List ℕ) (line : ℕ) (few : length input ≤ M
     behind = λ i. after (start_with (names_are i) (line_there i)) (trace_is i) >>= closed
 
     -- a refused trace
-    pub trace_refused : (f : Fault) → TellsRefusal (after (start_with names line) trace >>= closed) f → FailsToReplay f input
+    pub trace_refused : (f : Fault) → TellsRefusal (after (start_with names line) trace >>= closed) f → FailsToReplay size f input
     trace_refused (fault.Text f holder) refused = record { few = few; script = script; scripts = script_said; refused = sym behind ∙ refused }
     trace_refused (fault.Script f) refused = absurd refused
     trace_refused (fault.NotAStep place) refused = absurd refused
+    trace_refused fault.TooManyPatterns refused = absurd refused
     trace_refused fault.NoFinding refused = absurd refused
     trace_refused fault.Read refused = absurd refused
     trace_refused fault.Write refused = absurd refused
@@ -73,10 +64,11 @@ module _ (input scripts trace : List ℕ) (line : ℕ) (few : length input ≤ M
       says = record { few = few; scripts = script_said; trace = sym behind ∙ reads }
 
       -- a trace that is no run
-      pub run_refused : (f : Fault) → Records script p.reading.events (Err f) → FailsToReplay f input
+      pub run_refused : (f : Fault) → Records script p.reading.events (Err f) → FailsToReplay size f input
       run_refused (fault.Text f holder) odd = absurd odd
       run_refused (fault.Script f) odd = absurd odd
       run_refused (fault.NotAStep place) odd = record { script = script; p = p; says = says; first = odd }
+      run_refused fault.TooManyPatterns odd = absurd odd
       run_refused fault.NoFinding odd = absurd odd
       run_refused fault.Read odd = absurd odd
       run_refused fault.Write odd = absurd odd
@@ -88,29 +80,44 @@ module _ (input scripts trace : List ℕ) (line : ℕ) (few : length input ≤ M
         is_run = trace_is_run script r records.0 records.1
 
         -- what is predicted of it is predicted of the trace
-        predicted : (all : Found) → ArePredictions r.trace all → ArePredictions (run_of script p.reading.events) all
+        predicted : (all : Found) → ArePredictions r.trace size all → ArePredictions (run_of script p.reading.events) size all
         unfolding ArePredictions
-        predicted all are = law r.trace.events p.reading.events (length script.bodies) 1 all records.2 (subst (λ h. ArePredictions h all) is_run are)
+        predicted all are = law r.trace.events p.reading.events (length script.bodies) size all records.2 (subst (λ h. ArePredictions h size all) is_run are)
+
+        -- the run that the input says
+        abbrev run_said : SaysRun input
+        run_said = record {
+          script = script;
+          p = p;
+          says = says;
+          run = r.trace.events;
+          end = meaning r.machine;
+          legal = leads_to script r records.0 records.1;
+          same = records.2;
+        }
 
         -- the replays of the recording
-        pub replayed : (text : List ℕ) (found : Bool) → ReplaysRun script r.trace (Ok (text, found)) → IsReplay input text found
+        pub replayed : (text : List ℕ) (found : Bool) → ReplaysRun size script r.trace (Ok (text, found)) → IsReplay size input text found
         replayed text found replays = record {
-          run = record {
-            script = script;
-            p = p;
-            says = says;
-            run = r.trace.events;
-            end = meaning r.machine;
-            legal = leads_to script r records.0 records.1;
-            same = records.2;
-          };
+          run = run_said;
           all = replays.0;
           predicted = predicted replays.0 replays.1;
           replays = subst (λ h. WritesReplays script h replays.0 text) is_run replays.2;
           found_is = replays.3;
         }
 
-        -- the replays, or want of memory
-        pub replays_end : (result : Result (List ℕ × Bool) Fault) → ReplaysRun script r.trace result → MatchResult result (λ x. IsReplay input x.0 x.1) (λ f. FailsToReplay f input)
+        -- too many patterns, or want of memory
+        replay_refused : (f : Fault) → ReplaysRun size script r.trace (Err f) → FailsToReplay size f input
+        replay_refused (fault.Text f holder) fails = absurd fails
+        replay_refused (fault.Script f) fails = absurd fails
+        replay_refused (fault.NotAStep place) fails = absurd fails
+        replay_refused fault.TooManyPatterns fails = record { run = run_said; many = fails }
+        replay_refused fault.NoFinding fails = absurd fails
+        replay_refused fault.Read fails = absurd fails
+        replay_refused fault.Write fails = absurd fails
+        replay_refused fault.OutOfMemory fails = tt
+
+        -- the replays, or why there are none
+        pub replays_end : (result : Result (List ℕ × Bool) Fault) → ReplaysRun size script r.trace result → MatchResult result (λ x. IsReplay size input x.0 x.1) (λ f. FailsToReplay size f input)
         replays_end (Ok x) replays = replayed x.0 x.1 replays
-        replays_end (Err f) replays = replay_refused script r.trace f input replays
+        replays_end (Err f) replays = replay_refused f replays

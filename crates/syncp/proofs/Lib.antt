@@ -17,3 +17,5 @@ pub mod Witnessing
 pub mod Showing
 pub mod EndNames
 pub mod WholeRuns
+pub mod Deadly
+pub mod Ranked

@@ -42,4 +42,4 @@ module _ (input : List ℕ) (script : Script) (names : NameLists) (r : Recorded)
 
   -- and a front of it is a front of that
   pub front_recorded : (text : List ℕ) → IsFront text (trace_text names trace.events) → IsFrontOf Record input text
-  front_recorded text front = (trace_text names trace.events, false, (recorded (trace_text names trace.events) refl, refl), front)
+  front_recorded text front = (trace_text names trace.events, (false, (recorded (trace_text names trace.events) refl, refl)), front)

@@ -1,22 +1,20 @@
 -- The replays of what is found, line by line.
-use Rattle.std.proofs.Common.{◌≡◌, ℕ, zero, suc, ◌+◌, ◌-◌, ◌≤◌, Contains, List, [], ◌∷◌, ◌++◌, length, take, Some, slice_get, refl, sym, ap, ◌∙◌, subst, arith, append-nil, append_assoc, length-append}
-use Rattle.std.specs.Prelude.{get_or}
+use Rattle.std.proofs.Common.{◌≡◌, ℕ, ◌+◌, ◌-◌, ◌≤◌, List, [], ◌∷◌, ◌++◌, length, take, Some, slice_get, refl, sym, ap, ◌∙◌, subst, arith, append-nil, append_assoc, length-append}
 use Rattle.std.specs.List.{AllZip}
 use Rattle.std.proofs.lemmas.List.{take_more, take_all, length-take}
 use Rattle.std.proofs.lemmas.Option.{slice_get_within, get_or_from_slice_get}
-use Rattle.trace_laws.specs.Findings.{Found, FoundRace, FoundDeadlock, IsFoundRace, IsFoundDeadlock, by_reorderings}
+use Rattle.trace_laws.specs.Findings.{Found, IsFoundRace, IsFoundDeadlock, by_reorderings}
 use Rattle.trace_laws.specs.Names.{NameLists}
-use Rattle.trace_laws.specs.Patterns.{Class}
 use Rattle.trace_laws.specs.Stored.{IsAt, race_of, deadlock_of}
 use Rattle.trace_laws.specs.Traces.{History}
 use Rattle.trace_laws.specs.declared.finding.Finding.{Finding}
 use Rattle.trace_laws.specs.declared.finding.Finding.TheVariants.{Race, Deadlock}
-use Rattle.trace_laws.proofs.Places.{contains_head, contains_tail}
 use Rattle.script_machine.specs.Machine.{Script}
 use Rattle.replayer.specs.Replayed.{Replayed, IsFindingOf, IsRaceReplay, IsDeadlockReplay}
 use Rattle.report.specs.ReachedLines.{reached_line, closing_reached}
-use Rattle.syncp.specs.Predictions.{ArePredictions, count_of_findings}
+use Rattle.syncp.specs.Predictions.{ArePredictions, ArePredicted, count_of_findings}
 use Rattle.syncp.specs.Replayed.{AddsReplay, WritesReplays, reached_lines}
+use Rattle.syncp.proofs.Witnessing.{pattern_of}
 
 -- one line more
 lines_more : (names : NameLists) (n m : ℕ) (replays : List Replayed) (last : Replayed) → m ≡ n + length replays
@@ -123,23 +121,15 @@ all_replayed script run found n lines text counted so closed =
       written = closed ∙ ap (λ l. l ++ closing_reached n) so.written ∙ ap (λ k. reached_lines script.names 1 (so.races ++ so.deadlocks) ++ closing_reached k) size;
     }
 
--- the pattern of a deadlock that is found
-pattern_of : {A B : Type 0} (R : A → B → Type 0) (xs : List A) (ys : List B) (i : ℕ) (y : B) → AllZip R xs ys → slice_get ys i ≡ Some y → (x : A) × Contains xs x × R x y
-pattern_of R [] [] i y h at = absurd (cc)
-pattern_of R [] (z ∷ ys) i y h at = absurd h
-pattern_of R (x ∷ xs) [] i y h at = absurd h
-pattern_of R (x ∷ xs) (z ∷ ys) zero y h at = let same : z ≡ y = cc in (x, contains_head x xs, subst (R x) same h.0)
-pattern_of R (x ∷ xs) (z ∷ ys) (suc i) y h at = let (p, inside, is) = pattern_of R xs ys i y h.1 at in (p, contains_tail x xs p inside, is)
-
 -- what is found is a race or a deadlock of the trace, with its keep
-pub finding_of : (h : History) (found : Found) (n : ℕ) (f : Finding) → ArePredictions h found → IsAt found n f → IsFindingOf h f
+pub finding_of : (h : History) (found : Found) (n : ℕ) (f : Finding) → ArePredicted h found → IsAt found n f → IsFindingOf h f
 unfolding ArePredictions
-finding_of h found n (Race r keep) are at =
+finding_of h found n (Race r keep) (size, are) at =
     let race = race_of (Race r keep) in
     let is = are.races n race (slice_get_within found.races n race at) in
     let here = get_or_from_slice_get found.races n race race at in
     let stands = subst (IsFoundRace h.events h.threads (by_reorderings h.events)) here is in
     record { race = stands.race; keep = stands.keep }
-finding_of h found n (Deadlock picks keep) are at =
+finding_of h found n (Deadlock picks keep) (size, are) at =
     let (p, inside, is) = pattern_of (IsFoundDeadlock h.events h.threads (by_reorderings h.events)) are.patterns found.deadlocks (n - length found.races) (deadlock_of (Deadlock picks keep)) are.deadlocks at.1 in
     record { pattern = p; is_pattern = ((are.members p).0 inside).0; deadlock = is.deadlock; keep = is.keep }

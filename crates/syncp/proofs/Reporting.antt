@@ -1,19 +1,23 @@
 -- The report of what is predicted.
-use Rattle.std.proofs.Common.{◌≡◌, ℕ, List, [], ◌∷◌, get_or, Ok, ap, refl, subst, sym, arith}
-use Rattle.std.specs.Prelude.{All, nat_lt}
+use Rattle.std.proofs.Common.{◌≡◌, ℕ, List, [], ◌∷◌, get_or, Ok, ap, refl, subst}
+use Rattle.std.specs.Prelude.{nat_lt}
+use Rattle.std.proofs.lemmas.List.Elements.{Contains-get_or}
+use Rattle.std.proofs.lemmas.Option.{slice_get-get_or}
 use Rattle.sp_base.specs.Moves.{IsFront}
 use Rattle.trace_laws.specs.Names.{NameLists}
 use Rattle.trace_laws.specs.Traces.{History}
-use Rattle.trace_laws.specs.Findings.{Found, FoundRace, IsFoundRace, by_reorderings}
+use Rattle.trace_laws.specs.Patterns.{Class, IsPattern, IsInstance}
+use Rattle.trace_laws.specs.Findings.{Found, FoundRace, FoundDeadlock, IsFoundRace, IsFoundDeadlock, by_reorderings}
 use Rattle.trace_laws.proofs.Enabling.{conflict_within}
+use Rattle.trace_laws.proofs.Judges.{instance_within}
 use Rattle.trace_laws.proofs.Places.{contains_head, contains_tail}
 use Rattle.report.specs.Reports.{AreWithin, IsDeadlockWithin, IsRaceWithin, report_text}
-use Rattle.syncp.specs.Predictions.{ArePredictions, count_of_findings}
+use Rattle.syncp.specs.Predictions.{ArePredictions, ArePredicted, count_of_findings}
 use Rattle.syncp.specs.Modes.{IsFrontOf}
 use Rattle.syncp.specs.Outcome.{IsReadFrom}
 use Rattle.syncp.specs.Output.{IsOutput, IsReport}
 use Rattle.syncp.specs.Tasks.{Predict}
-use Rattle.syncp.proofs.Scanning.{no_deadlocks}
+use Rattle.syncp.proofs.Witnessing.{pattern_of}
 
 -- the places of a race are places of the trace
 race_within : (h : History) (r : FoundRace) → IsFoundRace h.events h.threads (by_reorderings h.events) r → IsRaceWithin h.events r
@@ -21,24 +25,29 @@ race_within h r is =
     let within = conflict_within h.events r.earlier r.later is.race.conflict in
     record { later = within r.later (contains_tail r.earlier (r.later ∷ []) r.later (contains_head r.later [])); earlier = within r.earlier (contains_head r.earlier (r.later ∷ [])) }
 
+-- the picks of a deadlock are places of the trace
+deadlock_within : (h : History) (pattern : List Class) (d : FoundDeadlock) → IsPattern h.events pattern → IsInstance pattern d.picks → IsDeadlockWithin h.events d
+deadlock_within h pattern d is picked = λ k e less. instance_within h.events pattern d.picks is picked (get_or d.picks k e) (Contains-get_or d.picks k e less)
+
 -- the places of what is predicted are places of the trace
-pub predicted_within : (h : History) (found : Found) → ArePredictions h found → AreWithin h.events found
+pub predicted_within : (h : History) (found : Found) → ArePredicted h found → AreWithin h.events found
 unfolding ArePredictions
 predicted_within h found are = record {
-  races = λ k d less. race_within h (get_or found.races k d) (are.races k d less);
-  deadlocks = subst (All (IsDeadlockWithin h.events)) (sym (no_deadlocks h found are)) (λ k d less. absurd (omega arith));
+  races = λ k d less. race_within h (get_or found.races k d) (are.1.races k d less);
+  deadlocks = λ k d less. let (p, inside, is) = pattern_of (IsFoundDeadlock h.events h.threads (by_reorderings h.events)) are.1.patterns found.deadlocks k (get_or found.deadlocks k d) are.1.deadlocks (slice_get-get_or found.deadlocks k d less) in
+      deadlock_within h p (get_or found.deadlocks k d) ((are.1.members p).0 inside).0 is.deadlock.picked;
 }
 
 -- its text is the report
-pub reported : (h : History) (found : Found) (text : List ℕ) (count : ℕ) → ArePredictions h found → count ≡ count_of_findings found → text ≡ report_text h.events found → IsReport h text (nat_lt 0 count)
+pub reported : (h : History) (size : ℕ) (found : Found) (text : List ℕ) (count : ℕ) → ArePredictions h size found → count ≡ count_of_findings found → text ≡ report_text h.events found → IsReport h size text (nat_lt 0 count)
 unfolding IsReport
-reported h found text count are counted written = (found, are, written, ap (nat_lt 0) counted)
+reported h size found text count are counted written = (found, are, written, ap (nat_lt 0) counted)
 
-module _ (trace : History) (names : NameLists) (input : List ℕ) (read : IsReadFrom ⊥ (Ok (trace, names)) input) (found : Found) (count : ℕ) (are : ArePredictions trace found) (counted : count ≡ count_of_findings found) where
+module _ (trace : History) (names : NameLists) (input : List ℕ) (read : IsReadFrom ⊥ (Ok (trace, names)) input) (size : ℕ) (found : Found) (count : ℕ) (are : ArePredictions trace size found) (counted : count ≡ count_of_findings found) where
   -- the report of a trace that was read is the output for the input
-  pub output : (text : List ℕ) → text ≡ report_text trace.events found → IsOutput input text (nat_lt 0 count)
-  output text written = (read.0, read.1, subst (λ (h : History). IsReport h text (nat_lt 0 count)) read.2 (reported trace found text count are counted written))
+  pub output : (text : List ℕ) → text ≡ report_text trace.events found → IsOutput size input text (nat_lt 0 count)
+  output text written = (read.0, read.1, subst (λ (h : History). IsReport h size text (nat_lt 0 count)) read.2 (reported trace size found text count are counted written))
 
   -- and a front of it is a front of that
-  pub front_output : (text : List ℕ) → IsFront text (report_text trace.events found) → IsFrontOf Predict input text
-  front_output text front = (report_text trace.events found, nat_lt 0 count, output (report_text trace.events found) refl, front)
+  pub front_output : (text : List ℕ) → IsFront text (report_text trace.events found) → IsFrontOf (Predict size) input text
+  front_output text front = (report_text trace.events found, (nat_lt 0 count, output (report_text trace.events found) refl), front)

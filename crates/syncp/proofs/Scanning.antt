@@ -1,24 +1,19 @@
 -- The races of the places so far.
 use Rattle.std.proofs.Common.{◌≡◌, ℕ, ◌+◌, ◌<◌, ◌≤◌, List, [], ◌∷◌, ◌++◌, length, map, ◌⊎◌, inl, inr, refl, sym, subst, ◌∙◌, arith}
-use Rattle.std.specs.Prelude.{Contains, All, AllPairs, Some, slice_get}
+use Rattle.std.specs.Prelude.{Contains, All, AllPairs}
 use Rattle.sp_base.specs.declared.limits.TheConstants.{MAX_VARS}
 use Rattle.std.proofs.lemmas.List.{map-append}
 use Rattle.std.proofs.lemmas.List.Elements.{All-push, Contains-push, Contains-append_left}
 use Rattle.std.proofs.lemmas.List.Quantifiers.{all_pairs_push}
 use Rattle.trace_laws.specs.Event.{Event}
-use Rattle.std.specs.List.{AllZip}
-use Rattle.trace_laws.specs.Findings.{Races, Found, FoundRace, FoundDeadlock, IsFoundRace, IsFoundDeadlock, by_reorderings}
-use Rattle.trace_laws.specs.Patterns.{Class}
-use Rattle.trace_laws.specs.Stored.{IsAt, IsRace, race_of}
-use Rattle.trace_laws.specs.declared.finding.Finding.{Finding}
-use Rattle.trace_laws.specs.declared.finding.Finding.TheVariants.{Race, Deadlock}
+use Rattle.trace_laws.specs.Findings.{Races, FoundRace, IsFoundRace, by_reorderings}
 use Rattle.trace_laws.specs.Traces.{History}
-use Rattle.trace_laws.proofs.Places.{three_way, contains_none, contains_head, contains_tail}
+use Rattle.trace_laws.proofs.Places.{three_way, contains_head, contains_tail}
 use Rattle.trace_laws.proofs.Enabling.{conflict_within}
 use Rattle.trace_index.specs.Accessed.{AreVariablesBelow}
 use Rattle.trace_index.proofs.Accessing.{access_within}
 use Rattle.race_scan.specs.Scans.{Scan, NoRaceBetween, IsNextRace}
-use Rattle.syncp.specs.Predictions.{ArePredictions}
+use Rattle.syncp.specs.Searches.{AreRaces}
 
 -- the races of the places below a number
 pub record Scanned (trace : List Event) (threads later : ℕ) (found : List FoundRace) : Type 0 where
@@ -64,17 +59,13 @@ scanned_one trace threads later found f s is race = record {
     at e1 e2 less other (inr (inl same)) _ = subst (λ (k : ℕ). Contains (map (λ (r : FoundRace). r.later) found ++ f.later ∷ []) k) (is ∙ sym same) (Contains-push (map (λ (r : FoundRace). r.later) found) f.later)
     at e1 e2 less other (inr (inr more)) within = absurd (omega arith)
 
--- the races of all places are the predictions: there is no pattern of one class
-pub predicted : (h : History) (later : ℕ) (found : Found) → length h.events ≤ later → Scanned h.events h.threads later found.races → found.deadlocks ≡ [] → ArePredictions h found
-unfolding ArePredictions
-predicted h later found all s none = record {
-  race_order = s.order;
+-- the races of all places
+races_from : (h : History) (later : ℕ) (found : List FoundRace) → length h.events ≤ later → length found ≤ length h.events → Scanned h.events h.threads later found → AreRaces h found
+races_from h later found all few s = record {
+  order = s.order;
   races = s.races;
-  all_races = λ e1 e2 less race. let within = conflict_within h.events e1 e2 race.conflict e2 (contains_tail e1 (e2 ∷ []) e2 (contains_head e2 [])) in s.all e1 e2 less (omega arith) race;
-  patterns = [];
-  pattern_order = λ i j d less within. absurd (omega arith);
-  members = λ p. (λ c. absurd (contains_none p c), λ h. absurd (let two = h.0.size in let one = h.1 in omega arith));
-  deadlocks = subst (AllZip (IsFoundDeadlock h.events h.threads (by_reorderings h.events)) []) (sym none) tt;
+  all = λ e1 e2 less race. let within = conflict_within h.events e1 e2 race.conflict e2 (contains_tail e1 (e2 ∷ []) e2 (contains_head e2 [])) in s.all e1 e2 less (omega arith) race;
+  few = few;
 }
 
 -- where all variables are in the range, a race is in it
@@ -99,35 +90,19 @@ none_of_all trace scan until all none = subst (λ (h : History). NoRaceBetween h
     (subst (λ (n : ℕ). NoRaceBetween scan.trace.events n scan.to scan.passed until) all.least none))
 
 -- one race more
-pub predicted_one : (h : History) (scan : Scan) (found : List FoundRace) (r : FoundRace) → AreVariablesBelow h.events MAX_VARS → IsOfAll h scan → Scanned h.events h.threads scan.passed found → IsNextRace scan r
+pub race_more : (h : History) (scan : Scan) (found : List FoundRace) (r : FoundRace) → AreVariablesBelow h.events MAX_VARS → IsOfAll h scan → Scanned h.events h.threads scan.passed found → IsNextRace scan r
     → Scanned h.events h.threads (r.later + 1) (found ++ r ∷ [])
-predicted_one h scan found r variables all s next = scanned_one h.events h.threads r.later found r
+race_more h scan found r variables all s next = scanned_one h.events h.threads r.later found r
     (scanned_past h.events h.threads scan.passed r.later found s next.from_passed (no_race_from h.events scan.passed r.later variables (none_of_all h scan r.later all next.first)))
     refl (subst (λ (t : History). IsFoundRace t.events t.threads (by_reorderings t.events) r) all.along next.is_found)
 
--- where the scan gives no further race, all are predicted
-pub predicted_all : (h : History) (scan : Scan) (found : Found) → AreVariablesBelow h.events MAX_VARS → IsOfAll h scan → Scanned h.events h.threads scan.passed found.races → found.deadlocks ≡ [] → scan.passed ≤ length h.events
-    → NoRaceBetween scan.trace.events scan.from scan.to scan.passed (length scan.trace.events) → ArePredictions h found
-predicted_all h scan found variables all s alone passed none = predicted h (length h.events) found (omega arith)
-    (scanned_past h.events h.threads scan.passed (length h.events) found.races s passed
-    (no_race_from h.events scan.passed (length h.events) variables (none_of_all h scan (length h.events) all (subst (λ (t : History). NoRaceBetween scan.trace.events scan.from scan.to scan.passed (length t.events)) all.along none)))) alone
+-- where the scan gives no further race, all are found
+pub all_races : (h : History) (scan : Scan) (found : List FoundRace) → AreVariablesBelow h.events MAX_VARS → IsOfAll h scan → Scanned h.events h.threads scan.passed found → scan.passed ≤ length h.events → length found ≤ scan.passed
+    → NoRaceBetween scan.trace.events scan.from scan.to scan.passed (length scan.trace.events) → AreRaces h found
+all_races h scan found variables all s passed few none = races_from h (length h.events) found (omega arith) (omega arith)
+    (scanned_past h.events h.threads scan.passed (length h.events) found s passed
+    (no_race_from h.events scan.passed (length h.events) variables (none_of_all h scan (length h.events) all (subst (λ (t : History). NoRaceBetween scan.trace.events scan.from scan.to scan.passed (length t.events)) all.along none))))
 
 -- the later place of a race that was found is one of the trace
 pub found_within : (h : History) (scan : Scan) (r : FoundRace) → IsOfAll h scan → IsNextRace scan r → r.later < length h.events
 found_within h scan r all next = subst (λ (t : History). r.later < length t.events) all.along (access_within scan.trace.events r.later next.range.var next.range.accesses)
-
--- there are races alone: no pattern has one class
-pub no_deadlocks : (h : History) (found : Found) → ArePredictions h found → found.deadlocks ≡ []
-unfolding ArePredictions
-no_deadlocks h found are = at are.patterns (λ p c. ((are.members p).0 c).0.size) (λ p c. ((are.members p).0 c).1) found.deadlocks are.deadlocks
-  where
-    at : (ps : List (List Class)) → ((p : List Class) → Contains ps p → 2 ≤ length p) → ((p : List Class) → Contains ps p → length p ≤ 1) → (ds : List FoundDeadlock)
-        → AllZip (IsFoundDeadlock h.events h.threads (by_reorderings h.events)) ps ds → ds ≡ []
-    at [] two one [] all = refl
-    at [] two one (d ∷ ds) all = absurd all
-    at (p ∷ ps) two one ds all = let least = two p (contains_head p ps) in let most = one p (contains_head p ps) in absurd (omega arith)
-
--- a finding is a race, of its number
-pub race_at : (h : History) (found : Found) (n : ℕ) (f : Finding) → ArePredictions h found → IsAt found n f → IsRace f × (slice_get found.races n ≡ Some (race_of f))
-race_at h found n (Race r keep) are at = (tt, at)
-race_at h found n (Deadlock picks keep) are at = let none = no_deadlocks h found are in let there = at.1 in absurd (cc)

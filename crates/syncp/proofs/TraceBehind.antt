@@ -6,7 +6,7 @@ use Rattle.std_text.specs.Framing.{Progress, closed}
 use Rattle.std_text.specs.Refusal.{Refusal, ◌>>=◌}
 use Rattle.std_text.specs.Told.{Told}
 use Rattle.syncp.specs.declared.outcome.Fault.{Fault}
-use Rattle.syncp.specs.declared.outcome.Fault.TheVariants.{Text, Script, NotAStep, NoFinding, Read, Write, OutOfMemory}
+use Rattle.syncp.specs.declared.outcome.Fault.TheVariants.{Text, Script, NotAStep, TooManyPatterns, NoFinding, Read, Write, OutOfMemory}
 use Rattle.syncp.specs.Faults.{TellsRefusal}
 use Rattle.syncp.specs.Outcome.{GoesOn, Ends}
 use Rattle.syncp.specs.Output.{history_of}
@@ -16,6 +16,7 @@ pub piece_refused : (read : Result Progress Refusal) (mid : Told) (f : Fault) �
 piece_refused read mid (Text f holder) refused = rw refused refl
 piece_refused read mid (Script f) refused = refused
 piece_refused read mid (NotAStep place) refused = refused
+piece_refused read mid TooManyPatterns refused = refused
 piece_refused read mid NoFinding refused = refused
 piece_refused read mid Read refused = refused
 piece_refused read mid Write refused = refused
@@ -27,6 +28,7 @@ module _ (read : Result Progress Refusal) (mid : Told) (goes : GoesOn read mid (
   end_refused (Text f holder) ends = rw goes.1 (ends goes.0 goes.2)
   end_refused (Script f) ends = ends goes.0 goes.2
   end_refused (NotAStep place) ends = ends goes.0 goes.2
+  end_refused TooManyPatterns ends = ends goes.0 goes.2
   end_refused NoFinding ends = ends goes.0 goes.2
   end_refused Read ends = ends goes.0 goes.2
   end_refused Write ends = ends goes.0 goes.2

@@ -10,7 +10,7 @@ use Rattle.std_text.specs.declared.fault.StdKind.TheVariants.{LineTooLong, NoBar
 use Rattle.syncp.specs.declared.outcome.Fault.{Fault}
 use Rattle.script_machine.specs.declared.fault.ScriptKind.{ScriptKind}
 use Rattle.script_machine.specs.declared.fault.ScriptKind.TheVariants as script
-use Rattle.syncp.specs.declared.outcome.Fault.TheVariants.{Text, Script, NotAStep, NoFinding, Read, Write, OutOfMemory}
+use Rattle.syncp.specs.declared.outcome.Fault.TheVariants.{Text, Script, NotAStep, TooManyPatterns, NoFinding, Read, Write, OutOfMemory}
 
 -- the refusal that a fault and a holder's name tell
 abbrev pub refusal_with : LineFault → List ℕ → Refusal
@@ -68,6 +68,7 @@ abbrev pub fault_line : Fault → List ℕ
 fault_line (Text f holder) = codes "line " ++ decimal f.line ++ codes " fault " ++ kind_text f.kind ++ holder ++ codes "\n"
 fault_line (Script f) = codes "line " ++ decimal f.line ++ codes " fault " ++ script_kind_text f.kind ++ codes "\n"
 fault_line (NotAStep place) = codes "place " ++ decimal place ++ codes " fault 33 NotAStep\n"
+fault_line TooManyPatterns = codes "fault 40 TooManyPatterns\n"
 fault_line NoFinding = codes "fault 41 NoFinding\n"
 fault_line Read = codes "read fault\n"
 fault_line Write = codes "write fault\n"

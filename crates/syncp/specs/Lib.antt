@@ -14,3 +14,4 @@ pub mod Inputs
 pub mod Replayed
 pub mod Replaying
 pub mod Runs
+pub mod Searches

@@ -12,13 +12,15 @@ use Rattle.script_machine.specs.ScriptText.{FirstFault}
 use Rattle.syncp.specs.declared.mode.Mode.{Mode}
 use Rattle.syncp.specs.declared.mode.Mode.TheVariants as mode
 use Rattle.syncp.specs.declared.outcome.Fault.{Fault}
-use Rattle.syncp.specs.declared.outcome.Fault.TheVariants.{Text, Script, NotAStep, NoFinding}
+use Rattle.syncp.specs.declared.outcome.Fault.TheVariants.{Text, Script, NotAStep, TooManyPatterns, NoFinding}
 use Rattle.syncp.specs.Faults.{refusal_with}
 use Rattle.syncp.specs.Output.{history_of, IsStd, IsKnownFault, HasNoFault, IsOutput}
 use Rattle.syncp.specs.Recorded.{IsTooLong, IsRecordOf, IsScriptOf}
 use Rattle.syncp.specs.Inputs.{scripts_in}
-use Rattle.syncp.specs.Replayed.{IsReplay, SaysRun, SaysNoTrace, SaysNoRun}
-use Rattle.syncp.specs.Runs.{IsRunOf}
+use Rattle.pattern_walk.specs.Listed.{HasMorePatterns}
+use Rattle.syncp.specs.Predictions.{HasFewPatterns}
+use Rattle.syncp.specs.Replayed.{IsReplay, SaysRun, SaysNoTrace, SaysNoRun, SaysManyPatterns}
+use Rattle.syncp.specs.Runs.{IsRunOf, IsCutRunOf}
 use Rattle.syncp.specs.Tasks.{Task, Predict, Record, Witness, Replay, Run}
 use Rattle.syncp.specs.Witnesses.{IsWitness, HasFinding, LacksFinding}
 
@@ -33,37 +35,46 @@ mode_named word =
     else None
 
 -- the input is in the grammar of the task: it is a trace text, which has the finding that is asked for, a script of no
--- more bytes than an input may have, or such a script with a run of it
+-- more bytes than an input may have, or such a script with a run of it; the trace has not too many patterns
 abbrev pub IsAccepted : Task → List ℕ → Type 0
-IsAccepted Predict input = (p : Progress) × IsStd input p
+IsAccepted (Predict size) input = (p : Progress) × IsStd input p × HasFewPatterns p.reading.events size
 IsAccepted Record input = (program : Program) × IsScriptOf input program
-IsAccepted (Witness number) input = (p : Progress) × IsStd input p × HasFinding (history_of p) number
-IsAccepted Replay input = SaysRun input
-IsAccepted Run input = (program : Program) × IsScriptOf input program
+IsAccepted (Witness size number) input = (p : Progress) × IsStd input p × HasFewPatterns p.reading.events size × HasFinding (history_of p) size number
+IsAccepted (Replay size) input = (r : SaysRun input) × HasFewPatterns r.run size
+IsAccepted (Run size) input = (program : Program) × IsScriptOf input program
 
 -- the output for an input, and whether it has a finding
 abbrev pub IsOutputOf : Task → List ℕ → List ℕ → Bool → Type 0
-IsOutputOf Predict input text found = IsOutput input text found
+IsOutputOf (Predict size) input text found = IsOutput size input text found
 IsOutputOf Record input text found = IsRecordOf input text × (found ≡ false)
-IsOutputOf (Witness number) input text found = IsWitness input number text × (found ≡ true)
-IsOutputOf Replay input text found = IsReplay input text found
-IsOutputOf Run input text found = IsRunOf input text found
+IsOutputOf (Witness size number) input text found = IsWitness size number input text × (found ≡ true)
+IsOutputOf (Replay size) input text found = IsReplay size input text found
+IsOutputOf (Run size) input text found = IsRunOf size input text found
 
--- a front of an output
+-- what may be written for an input: its output, or the front of it that a run with too many patterns leaves
+abbrev pub MayWrite : Task → List ℕ → List ℕ → Type 0
+MayWrite (Run size) input text = ((found : Bool) × IsRunOf size input text found) ⊎ IsCutRunOf size input text
+MayWrite task input text = (found : Bool) × IsOutputOf task input text found
+
+-- a front of what may be written
 abbrev pub IsFrontOf : Task → List ℕ → List ℕ → Type 0
-IsFrontOf task input text = (whole : List ℕ) × (found : Bool) × IsOutputOf task input whole found × IsFront text whole
+IsFrontOf task input text = (whole : List ℕ) × MayWrite task input whole × IsFront text whole
 
 -- no fault is known within the bytes so far, where the text of a script is looked at once all of it is there
 abbrev pub HasNoFaultIn : Task → List ℕ → Type 0
-HasNoFaultIn Predict input = HasNoFault input
+HasNoFaultIn (Predict size) input = HasNoFault input
 HasNoFaultIn Record input = length input ≤ MAX_INPUT
-HasNoFaultIn (Witness number) input = HasNoFault input
-HasNoFaultIn Replay input = length input ≤ MAX_INPUT
-HasNoFaultIn Run input = length input ≤ MAX_INPUT
+HasNoFaultIn (Witness size number) input = HasNoFault input
+HasNoFaultIn (Replay size) input = length input ≤ MAX_INPUT
+HasNoFaultIn (Run size) input = length input ≤ MAX_INPUT
 
 -- the whole input says a trace that has fewer findings
-abbrev pub IsPastFindings : Type 0 → List ℕ → ℕ → Type 0
-IsPastFindings Ended input number = (p : Progress) × IsStd input p × LacksFinding (history_of p) number × Ended
+abbrev pub IsPastFindings : Type 0 → List ℕ → ℕ → ℕ → Type 0
+IsPastFindings Ended input size number = (p : Progress) × IsStd input p × LacksFinding (history_of p) size number × Ended
+
+-- the whole input says a trace that has too many patterns
+abbrev pub IsPastPatterns : Type 0 → List ℕ → ℕ → Type 0
+IsPastPatterns Ended input size = (p : Progress) × IsStd input p × HasMorePatterns p.reading.events size × Ended
 
 -- the input of scripts and a trace is refused for its length, or its trace is
 abbrev pub IsRefusedText : Type 0 → LineFault → List ℕ → List ℕ → Type 0
@@ -71,14 +82,27 @@ IsRefusedText Ended f holder input = (IsTooLong input f × (holder ≡ [])) ⊎ 
 
 -- the input is refused with this fault
 abbrev pub IsRefusedIn : Task → Type 0 → Fault → List ℕ → Type 0
-IsRefusedIn Predict Ended (Text f holder) input = IsKnownFault Ended input (refusal_with f holder)
+IsRefusedIn (Predict size) Ended (Text f holder) input = IsKnownFault Ended input (refusal_with f holder)
+IsRefusedIn (Predict size) Ended TooManyPatterns input = IsPastPatterns Ended input size
 IsRefusedIn Record Ended (Text f holder) input = IsTooLong input f × (holder ≡ [])
 IsRefusedIn Record Ended (Script f) input = (length input ≤ MAX_INPUT) × FirstFault input f × Ended
-IsRefusedIn (Witness number) Ended (Text f holder) input = IsKnownFault Ended input (refusal_with f holder)
-IsRefusedIn (Witness number) Ended NoFinding input = IsPastFindings Ended input number
-IsRefusedIn Replay Ended (Text f holder) input = IsRefusedText Ended f holder input
-IsRefusedIn Replay Ended (Script f) input = (length input ≤ MAX_INPUT) × FirstFault (scripts_in input) f × Ended
-IsRefusedIn Replay Ended (NotAStep place) input = SaysNoRun input place × Ended
-IsRefusedIn Run Ended (Text f holder) input = IsTooLong input f × (holder ≡ [])
-IsRefusedIn Run Ended (Script f) input = (length input ≤ MAX_INPUT) × FirstFault input f × Ended
+IsRefusedIn (Witness size number) Ended (Text f holder) input = IsKnownFault Ended input (refusal_with f holder)
+IsRefusedIn (Witness size number) Ended TooManyPatterns input = IsPastPatterns Ended input size
+IsRefusedIn (Witness size number) Ended NoFinding input = IsPastFindings Ended input size number
+IsRefusedIn (Replay size) Ended (Text f holder) input = IsRefusedText Ended f holder input
+IsRefusedIn (Replay size) Ended (Script f) input = (length input ≤ MAX_INPUT) × FirstFault (scripts_in input) f × Ended
+IsRefusedIn (Replay size) Ended (NotAStep place) input = SaysNoRun input place × Ended
+IsRefusedIn (Replay size) Ended TooManyPatterns input = SaysManyPatterns size input × Ended
+IsRefusedIn (Run size) Ended (Text f holder) input = IsTooLong input f × (holder ≡ [])
+IsRefusedIn (Run size) Ended (Script f) input = (length input ≤ MAX_INPUT) × FirstFault input f × Ended
 IsRefusedIn task Ended f input = ⊥
+
+-- there are too many patterns, and nothing is written; but of a run that was recorded its trace and the mark
+abbrev pub IsCut : Task → Type 0 → List ℕ → List ℕ → Type 0
+IsCut (Run size) Ended input text = IsCutRunOf size input text × Ended
+IsCut task Ended input text = IsRefusedIn task Ended TooManyPatterns input × (text ≡ [])
+
+-- the input is refused with this fault, and what is written then
+abbrev pub IsRefusalOf : Task → Type 0 → Fault → List ℕ → List ℕ → Type 0
+IsRefusalOf task Ended TooManyPatterns input text = IsCut task Ended input text
+IsRefusalOf task Ended f input text = IsRefusedIn task Ended f input × (text ≡ [])

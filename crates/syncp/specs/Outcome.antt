@@ -7,24 +7,32 @@ use Rattle.std_text.specs.Framing.{Progress}
 use Rattle.std_text.specs.Refusal.{Refusal}
 use Rattle.std_text.specs.Told.{Told}
 use Rattle.syncp.specs.declared.outcome.Fault.{Fault}
-use Rattle.syncp.specs.declared.outcome.Fault.TheVariants.{Text, Script, NotAStep, NoFinding, Read, Write, OutOfMemory}
+use Rattle.syncp.specs.declared.outcome.Fault.TheVariants.{Text, Script, NotAStep, TooManyPatterns, NoFinding, Read, Write, OutOfMemory}
 use Rattle.syncp.specs.declared.outcome.Outcome.{Outcome}
 use Rattle.syncp.specs.declared.outcome.Outcome.TheVariants.{Done, Refused}
-use Rattle.syncp.specs.Faults.{TellsRefusal}
-use Rattle.syncp.specs.Modes.{IsOutputOf, IsFrontOf, HasNoFaultIn, IsRefusedIn}
-use Rattle.syncp.specs.Output.{history_of, IsStd}
+use Rattle.syncp.specs.Faults.{TellsRefusal, refusal_with}
+use Rattle.syncp.specs.Modes.{IsOutputOf, IsFrontOf, HasNoFaultIn, IsRefusedIn, IsCut}
+use Rattle.syncp.specs.Output.{history_of, IsStd, IsKnownFault, HasNoFault}
 use Rattle.syncp.specs.Recorded.{IsTooLong}
-use Rattle.syncp.specs.Tasks.{Task, Predict}
+use Rattle.syncp.specs.Tasks.{Task, Run}
 
 -- a fault while the input was read
 abbrev pub FailsToRead : Task → Type 0 → Fault → List ℕ → Type 0
 FailsToRead task Ended (Text f holder) input = IsRefusedIn task Ended (Text f holder) input
 FailsToRead task Ended (Script f) input = IsRefusedIn task Ended (Script f) input
 FailsToRead task Ended (NotAStep place) input = IsRefusedIn task Ended (NotAStep place) input
+FailsToRead task Ended TooManyPatterns input = IsRefusedIn task Ended TooManyPatterns input
 FailsToRead task Ended NoFinding input = ⊥
 FailsToRead task Ended Read input = HasNoFaultIn task input
 FailsToRead task Ended Write input = ⊥
 FailsToRead task Ended OutOfMemory input = Unit {0}
+
+-- a fault while a trace was read
+abbrev pub FailsToReadTrace : Type 0 → Fault → List ℕ → Type 0
+FailsToReadTrace Ended (Text f holder) input = IsKnownFault Ended input (refusal_with f holder)
+FailsToReadTrace Ended Read input = HasNoFault input
+FailsToReadTrace Ended OutOfMemory input = Unit {0}
+FailsToReadTrace Ended f input = ⊥
 
 -- a fault while all of a source was gathered
 abbrev pub FailsToGather : Fault → List ℕ → Type 0
@@ -46,7 +54,7 @@ Ends read (Err fault) = TellsRefusal read fault
 -- a reading of all the input, or a fault
 abbrev pub IsReadFrom : Type 0 → Result (History × NameLists) Fault → List ℕ → Type 0
 IsReadFrom Ended (Ok read) input = (p : Progress) × IsStd input p × (read.0 ≡ history_of p) × (read.1 ≡ p.reading.names)
-IsReadFrom Ended (Err fault) input = FailsToRead Predict Ended fault input
+IsReadFrom Ended (Err fault) input = FailsToReadTrace Ended fault input
 
 -- what was read and written explains the outcome of a task
 abbrev pub Explains : Task → Type 0 → Outcome → List ℕ → List ℕ → Type 0
@@ -54,6 +62,7 @@ Explains task Ended (Done found) input text = IsOutputOf task input text found
 Explains task Ended (Refused (Text f holder)) input text = IsRefusedIn task Ended (Text f holder) input × (text ≡ [])
 Explains task Ended (Refused (Script f)) input text = IsRefusedIn task Ended (Script f) input × (text ≡ [])
 Explains task Ended (Refused (NotAStep place)) input text = IsRefusedIn task Ended (NotAStep place) input × (text ≡ [])
+Explains task Ended (Refused TooManyPatterns) input text = IsCut task Ended input text
 Explains task Ended (Refused NoFinding) input text = IsRefusedIn task Ended NoFinding input × (text ≡ [])
 Explains task Ended (Refused Read) input text = HasNoFaultIn task input × (text ≡ [])
 Explains task Ended (Refused Write) input text = IsFrontOf task input text × Ended
@@ -63,3 +72,9 @@ Explains task Ended (Refused OutOfMemory) input text = (text ≡ []) ⊎ (IsFron
 abbrev pub IsDone : Outcome → Type 0
 IsDone (Done found) = Unit {0}
 IsDone (Refused fault) = ⊥
+
+-- The task was answered: its whole output was written, or memory ran out. In the mode run the run that was recorded may have
+-- too many patterns.
+abbrev pub IsAnswered : Task → Outcome → Type 0
+IsAnswered (Run size) outcome = IsDone outcome ⊎ ((outcome ≡ Refused OutOfMemory) ⊎ (outcome ≡ Refused TooManyPatterns))
+IsAnswered task outcome = IsDone outcome ⊎ (outcome ≡ Refused OutOfMemory)

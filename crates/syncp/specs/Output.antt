@@ -32,10 +32,10 @@ IsKnownFault Ended text f = (after start text ≡ Err f) ⊎ (Ended × (whole_re
 abbrev pub HasNoFault : List ℕ → Type 0
 HasNoFault text = (p : Progress) × (after start text ≡ Ok p)
 
--- the report of a trace, and whether it has a finding
-unfoldable pub IsReport : History → List ℕ → Bool → Type 0
-IsReport h text found = (all : Found) × ArePredictions h all × (text ≡ report_text h.events all) × (found ≡ nat_lt 0 (count_of_findings all))
+-- the report of a trace with patterns of at most that size, and whether it has a finding
+unfoldable pub IsReport : History → ℕ → List ℕ → Bool → Type 0
+IsReport h size text found = (all : Found) × ArePredictions h size all × (text ≡ report_text h.events all) × (found ≡ nat_lt 0 (count_of_findings all))
 
 -- the output for an input
-abbrev pub IsOutput : List ℕ → List ℕ → Bool → Type 0
-IsOutput input text found = (p : Progress) × IsStd input p × IsReport (history_of p) text found
+abbrev pub IsOutput : ℕ → List ℕ → List ℕ → Bool → Type 0
+IsOutput size input text found = (p : Progress) × IsStd input p × IsReport (history_of p) size text found

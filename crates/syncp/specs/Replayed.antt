@@ -13,6 +13,7 @@ use Rattle.std_text.specs.Refusal.{Refusal}
 use Rattle.script_machine.specs.Machine.{Script, State, LegalRun}
 use Rattle.script_machine.specs.OfTrace.{IsFirstNoStep}
 use Rattle.script_machine.specs.ScriptText.{Scripts}
+use Rattle.pattern_walk.specs.Listed.{HasMorePatterns}
 use Rattle.replayer.specs.Replayed.{Replayed, IsRaceReplay, IsDeadlockReplay, IsReplayOf}
 use Rattle.report.specs.ReachedLines.{reached_line, closing_reached}
 use Rattle.syncp.specs.Inputs.{scripts_in, trace_in, trace_line}
@@ -53,6 +54,11 @@ pub record SaysRun (input : List ℕ) : Type 0 where
   pub legal : LegalRun script run end
   pub same : DoTheSame run p.reading.events
 
+-- the input says a script and a run of it that has too many patterns
+pub record SaysManyPatterns (size : ℕ) (input : List ℕ) : Type 0 where
+  pub run : SaysRun input
+  pub many : HasMorePatterns run.run size
+
 -- a run with the number of threads of its script
 abbrev pub run_of : Script → List Event → History
 run_of script events = record { events = events; threads = length script.bodies }
@@ -82,9 +88,9 @@ pub record WritesReplays (script : Script) (run : History) (found : Found) (text
   pub written : text ≡ replays_text script.names (races ++ deadlocks)
 
 -- the text is that of the replays of all that is found in the trace that the input says, and whether there is any
-pub record IsReplay (input text : List ℕ) (found : Bool) : Type 0 where
+pub record IsReplay (size : ℕ) (input text : List ℕ) (found : Bool) : Type 0 where
   pub run : SaysRun input
   pub all : Found
-  pub predicted : ArePredictions (run_of run.script run.p.reading.events) all
+  pub predicted : ArePredictions (run_of run.script run.p.reading.events) size all
   pub replays : WritesReplays run.script (run_of run.script run.run) all text
   pub found_is : found ≡ nat_lt 0 (count_of_findings all)

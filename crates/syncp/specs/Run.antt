@@ -9,20 +9,20 @@ use Rattle.syncp.specs.declared.outcome.Fault.TheVariants as fault
 use Rattle.syncp.specs.declared.outcome.Status.{Status}
 use Rattle.syncp.specs.declared.outcome.Status.TheVariants.{Clean, Found, Usage, Refused, Limit, ReadFault, WriteFault, NoMemory}
 use Rattle.syncp.specs.Faults.{fault_line}
-use Rattle.syncp.specs.Modes.{IsOutputOf, IsFrontOf, HasNoFaultIn, IsRefusedIn}
+use Rattle.syncp.specs.Modes.{IsOutputOf, IsFrontOf, HasNoFaultIn, IsRefusalOf}
 use Rattle.syncp.specs.Statuses.{status_of}
-use Rattle.syncp.specs.Tasks.{Task, task_of}
+use Rattle.syncp.specs.Tasks.{Task, Run, task_of}
 
 -- a line of `err` was written whole, or in part where its count of faults rose
 abbrev pub TellsLine : Type 0 → Fault → List ℕ → Type 0
 TellsLine ErrFailed f line = (line ≡ fault_line f) ⊎ (IsFront line (fault_line f) × ErrFailed)
 
--- the input is refused with a fault of the status, whose line is told, and nothing is written to `out`
+-- the input is refused with a fault of the status, whose line is told; nothing is written to `out`, or of a run with too
+-- many patterns its trace and the mark
 pub record Refuses (task : Task) (Ended ErrFailed : Type 0) (status : Status) (input text line : List ℕ) : Type 0 where
   pub cause : Fault
-  pub known : IsRefusedIn task Ended cause input
+  pub known : IsRefusalOf task Ended cause input text
   pub status_is : status_of cause ≡ status
-  pub nothing : text ≡ []
   pub told : TellsLine ErrFailed cause line
 
 -- a status of a task, by what was read from the source and written to `out` and `err`
@@ -44,6 +44,12 @@ Leaves (Some words) Ended ErrFailed status input text line = Means (task_of word
 -- the whole output was written
 abbrev pub IsDone : Status → Type 0
 IsDone status = (status ≡ Clean) ⊎ (status ≡ Found)
+
+-- The task was answered: its whole output was written, or memory ran out. In the mode run the run that was recorded may have
+-- too many patterns, which passes a limit.
+abbrev pub IsAnswered : Task → Status → Type 0
+IsAnswered (Run size) status = IsDone status ⊎ ((status ≡ NoMemory) ⊎ (status ≡ Limit))
+IsAnswered task status = IsDone status ⊎ (status ≡ NoMemory)
 
 -- what a refusal told `err`, and its status: that of the fault, or that memory ran out before the line was told
 abbrev pub TellsOf : Type 0 → Fault → Status → List ℕ → Type 0

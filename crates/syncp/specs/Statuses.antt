@@ -5,7 +5,7 @@ use Rattle.std_text.specs.declared.fault.StdKind.TheVariants.{InputTooLong, TooM
 use Rattle.script_machine.specs.declared.fault.ScriptKind.{ScriptKind}
 use Rattle.script_machine.specs.declared.fault.ScriptKind.TheVariants.{TooManyInstructions, TooManyNames}
 use Rattle.syncp.specs.declared.outcome.Fault.{Fault}
-use Rattle.syncp.specs.declared.outcome.Fault.TheVariants.{Text, Script, NotAStep, NoFinding, Read, Write, OutOfMemory}
+use Rattle.syncp.specs.declared.outcome.Fault.TheVariants.{Text, Script, NotAStep, TooManyPatterns, NoFinding, Read, Write, OutOfMemory}
 use Rattle.syncp.specs.declared.outcome.Status.{Status}
 use Rattle.syncp.specs.declared.outcome.Status.TheVariants.{Clean, Found, Usage, Refused, Limit, ReadFault, WriteFault, NoMemory}
 
@@ -44,6 +44,7 @@ abbrev pub status_of : Fault → Status
 status_of (Text f holder) = refusal_status (passes_limit f.kind)
 status_of (Script f) = refusal_status (script_passes_limit f.kind)
 status_of (NotAStep place) = Refused
+status_of TooManyPatterns = Limit
 status_of NoFinding = Limit
 status_of Read = ReadFault
 status_of Write = WriteFault

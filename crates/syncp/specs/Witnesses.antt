@@ -45,24 +45,26 @@ pub record IsWitnessOf (h : History) (target : Target) (places : List ℕ) : Typ
   pub kept : AreKept h.events target.keep places
   pub least : IsLeastReordering h.events target.picks places
 
--- the text is that of the witness of a finding of the trace, which has that number
-pub record WritesWitness (names : NameLists) (h : History) (number : ℕ) (text : List ℕ) : Type 0 where
-  pub found : Found
-  pub predicted : ArePredictions h found
+-- the text is that of the witness of the finding that has the number among those found
+pub record WritesFinding (names : NameLists) (h : History) (found : Found) (number : ℕ) (text : List ℕ) : Type 0 where
   pub target : Target
   pub numbered : IsNumbered found number target
   pub places : List ℕ
   pub witness : IsWitnessOf h target places
   pub written : text ≡ trace_text names (along h.events places)
 
+-- the text is that of the witness of a finding of the trace, which has that number
+abbrev pub WritesWitness : NameLists → History → ℕ → ℕ → List ℕ → Type 0
+WritesWitness names h size number text = (found : Found) × ArePredictions h size found × WritesFinding names h found number text
+
 -- the text is that of the witness of a finding of the trace that the input says
-abbrev pub IsWitness : List ℕ → ℕ → List ℕ → Type 0
-IsWitness input number text = (p : Progress) × IsStd input p × WritesWitness p.reading.names (history_of p) number text
+abbrev pub IsWitness : ℕ → ℕ → List ℕ → List ℕ → Type 0
+IsWitness size number input text = (p : Progress) × IsStd input p × WritesWitness p.reading.names (history_of p) size number text
 
 -- the trace has a finding of that number
-abbrev pub HasFinding : History → ℕ → Type 0
-HasFinding h number = (found : Found) × ArePredictions h found × (number ≤ count_of_findings found)
+abbrev pub HasFinding : History → ℕ → ℕ → Type 0
+HasFinding h size number = (found : Found) × ArePredictions h size found × (number ≤ count_of_findings found)
 
 -- the trace has fewer findings
-abbrev pub LacksFinding : History → ℕ → Type 0
-LacksFinding h number = (found : Found) × ArePredictions h found × (count_of_findings found < number)
+abbrev pub LacksFinding : History → ℕ → ℕ → Type 0
+LacksFinding h size number = (found : Found) × ArePredictions h size found × (count_of_findings found < number)

@@ -1,10 +1,10 @@
 // The mode `predict`.
-ghost use Rattle.std.specs.Prelude.{◌≡◌, ◌≤◌, ◌⊎◌, ℕ, List, Some};
+ghost use Rattle.std.specs.Prelude.{◌≡◌, ◌≤◌, ℕ, List, Some};
 ghost use Rattle.std.specs.Io.KnownBytes.{IsAtEnd};
 ghost use Rattle.sp_base.specs.Causes.{Rose};
 ghost use Rattle.sp_base.specs.Moves.{Took, Gained};
 ghost use Rattle.syncp.specs.Modes.{IsAccepted};
-ghost use Rattle.syncp.specs.Outcome.{Explains, IsDone};
+ghost use Rattle.syncp.specs.Outcome.{Explains, IsAnswered, IsDone};
 ghost use Rattle.syncp.specs.Output.{IsWithinLimit};
 ghost use Rattle.syncp.specs.Tasks.{Predict};
 
@@ -16,9 +16,10 @@ use sp_base::{Gate, MAX_SIZE, MAX_WORKERS, MIN_SIZE, Sink, Source, WriteFault};
 use std::alloc::Global;
 use std::thread::Threads;
 
-/// Reads a trace and writes its report. The size of deadlock patterns, the workers and the gate have no part in the
-/// answer yet. A refusal of the text comes before anything is written. `Read` and `Write` come only where the count of
-/// faults of the source or of the sink rose; after `Write`, and after want of memory, a front of the report is written.
+/// Reads a trace and writes its report, with deadlock patterns of at most that size. The workers and the gate have no part
+/// in the answer yet. A refusal of the text comes before anything is written, as does `TooManyPatterns`, which comes exactly
+/// where the whole input is a trace that has too many patterns. `Read` and `Write` come only where the count of faults of
+/// the source or of the sink rose; after `Write`, and after want of memory, a front of the report is written.
 pub fn analyse<R: Threads + Sync, S: Source, K: Sink, G: Gate>(
     rt: &R,
     alloc: Global,
@@ -35,7 +36,7 @@ pub fn analyse<R: Threads + Sync, S: Source, K: Sink, G: Gate>(
 
     // What was read and written explains the outcome.
     ensures outcome { Took (S.left source.old) (S.left source.new) (λ input. IsWithinLimit input ×
-        Gained (K.text out.old) (K.text out.new) (Explains Predict (IsAtEnd (S.left source.new)) result input)) }
+        Gained (K.text out.old) (K.text out.new) (Explains (Predict size) (IsAtEnd (S.left source.new)) result input)) }
     ensures ended { IsDone result → IsAtEnd (S.left source.new) }
 
     // A fault of the outside comes only where a count of faults rose.
@@ -43,9 +44,9 @@ pub fn analyse<R: Threads + Sync, S: Source, K: Sink, G: Gate>(
     ensures write { result ≡ Outcome.Refused Fault.Write → Rose (K.faults out.old) (K.faults out.new) }
 
     // An input in the grammar is answered, unless the outside fails or memory runs out.
-    ensures complete { (all : List ℕ) → S.left source.old ≡ Some all → IsAccepted Predict all →
+    ensures complete { (all : List ℕ) → S.left source.old ≡ Some all → IsAccepted (Predict size) all →
         ¬ Rose (S.faults source.old) (S.faults source.new) → ¬ Rose (K.faults out.old) (K.faults out.new) →
-        IsDone result ⊎ (result ≡ Outcome.Refused Fault.OutOfMemory) }
+        IsAnswered (Predict size) result }
 {
     let (trace, _names) = match read_trace(alloc, source) {
         Ok(read) => read,
@@ -53,6 +54,7 @@ pub fn analyse<R: Threads + Sync, S: Source, K: Sink, G: Gate>(
     };
     let findings = match find(rt, alloc, &trace, size, workers, gate) {
         Ok(findings) => findings,
+        Err(FindFault::TooManyPatterns) => return Outcome::Refused(Fault::TooManyPatterns),
         Err(FindFault::OutOfMemory) => return Outcome::Refused(Fault::OutOfMemory),
     };
     let found = findings.len() > 0;

@@ -17,6 +17,7 @@ pub fn line_of(alloc: Global, fault: &Fault) -> Result<Vec<u8>, OutOfMemory>
         Fault::Text { fault, holder } => text_line(alloc, fault, holder),
         Fault::Script(fault) => script_line(alloc, fault),
         Fault::NotAStep(place) => place_line(alloc, *place),
+        Fault::TooManyPatterns => owned(alloc, "fault 40 TooManyPatterns\n"),
         Fault::NoFinding => owned(alloc, "fault 41 NoFinding\n"),
         Fault::Read => owned(alloc, "read fault\n"),
         Fault::Write => owned(alloc, "write fault\n"),

@@ -1,20 +1,27 @@
 // What is found in a trace.
-ghost use Rattle.std.specs.Prelude.{◌≡◌, ◌≤◌, [], length, IfOk};
-ghost use Rattle.sp_base.specs.declared.limits.TheConstants.{MAX_EVENTS};
-ghost use Rattle.trace_index.specs.Accessed.{AreVariablesBelow};
-ghost use Rattle.syncp.specs.Predictions.{ArePredictions};
+ghost use Rattle.std.specs.Prelude.{◌≡◌, ◌≤◌, length, map, IfOk, IsErrOf};
+ghost use Rattle.pattern_walk.specs.Cycles.{classes_of};
+ghost use Rattle.pattern_walk.specs.Listed.{AreListed, HasMorePatterns};
+ghost use Rattle.syncp.specs.Predictions.{ArePredictions, HasFewPatterns};
+ghost use Rattle.syncp.specs.Searches.{AreRaces, AreRanked, AreDeadlocks};
 
-use race_scan::RaceScan;
-use sp_base::{Gate, MAX_SIZE, MAX_VARS, MAX_WORKERS, MIN_SIZE, OutOfMemory};
+use crate::deadlocks::find_deadlocks;
+use crate::races::find_races;
+use lock_graph::Classes;
+use pattern_walk::{Patterns, WalkFault};
+use sp_base::{Gate, MAX_SIZE, MAX_WORKERS, MIN_SIZE, OutOfMemory};
 use std::alloc::Global;
 use std::thread::Threads;
 use thiserror::Error;
 use trace_index::Index;
-use trace_laws::{Finding, Findings, Trace};
+use trace_laws::{Findings, Trace};
 
 /// Why the findings of a trace were not answered.
 #[derive(Clone, Copy, Debug, Drop, PartialEq, Eq, Error)]
 pub enum FindFault {
+    /// There are more than `MAX_PATTERNS` deadlock patterns up to the size.
+    #[error("too many deadlock patterns")]
+    TooManyPatterns,
     /// Memory ran out.
     #[error("out of memory")]
     OutOfMemory,
@@ -30,43 +37,64 @@ impl From<OutOfMemory> for FindFault {
     }
 }
 
-// All races that a scan gives, where it is a scan of all variables that gave none yet.
-fn collect(alloc: Global, scan: &mut RaceScan<'_>) -> Result<Findings, OutOfMemory>
-    requires least { scan.old.from ≡ 0 }
-    requires greatest { scan.old.to ≡ MAX_VARS }
-    requires start { scan.old.passed ≡ 0 }
-    requires variables { AreVariablesBelow scan.old.trace.events MAX_VARS }
-    requires size { length scan.old.trace.events ≤ MAX_EVENTS }
-    ensures { IfOk result (ArePredictions scan.old.trace) }
+// The patterns of classes up to a size.
+fn list_patterns(alloc: Global, classes: &Classes<'_>, size: u8) -> Result<Patterns, FindFault>
+    requires least { MIN_SIZE ≤ size }
+    requires most { size ≤ MAX_SIZE }
+    ensures listed { IfOk result (AreListed classes.now size) }
+    ensures few { IfOk result (λ _. HasFewPatterns classes.now.trace.events size) }
+    ensures many { IsErrOf result FindFault.TooManyPatterns → HasMorePatterns classes.now.trace.events size }
 {
-    let mut found = Findings::new(alloc);
-    while let Some((race, keep)) = scan.next()? {
-        found.push(Finding::Race(race, keep))?;
+    match Patterns::list(alloc, classes, size) {
+        Ok(patterns) => Ok(patterns),
+        Err(WalkFault::TooManyPatterns) => Err(FindFault::TooManyPatterns),
+        Err(WalkFault::OutOfMemory) => Err(FindFault::OutOfMemory),
     }
+}
+
+// The races of the trace of classes, and the deadlocks of its patterns.
+fn find_listed(
+    alloc: Global,
+    classes: &Classes<'_>,
+    patterns: &Patterns,
+) -> Result<Findings, OutOfMemory>
+    requires { AreRanked classes.now patterns.now }
+    ensures races { IfOk result (λ found. AreRaces classes.now.trace found.races) }
+    ensures deadlocks { IfOk result (λ found. AreDeadlocks classes.now.trace (map (classes_of classes.now.classes) patterns.now) (length patterns.now) found.deadlocks) }
+{
+    let mut found = find_races(alloc, classes.index())?;
+    // The trace is not too long, as the number of its classes says.
+    let _ = classes.len();
+    find_deadlocks(alloc, classes, patterns, &mut found)?;
     Ok(found)
 }
 
-/// What is found in a trace: its races in the order of their later places, each with its earliest partner and its keep.
-/// The size of deadlock patterns, the workers and the gate have no part in the answer yet.
+/// What is found in a trace: its races in the order of their later places, each with its earliest partner and its keep, and
+/// then the deadlocks of its patterns of at most that size, in the order of the patterns, each with its keep. The workers and
+/// the gate have no part in the answer yet.
 ///
-/// The only error is want of memory.
+/// Fails with `TooManyPatterns` exactly where there are more than `MAX_PATTERNS` patterns, and with `OutOfMemory` where
+/// memory runs out.
 pub fn find<R: Threads + Sync, G: Gate>(
     _rt: &R,
     alloc: Global,
     trace: &Trace,
-    _size: u8,
+    size: u8,
     _workers: u8,
     _gate: &G,
 ) -> Result<Findings, FindFault>
-    requires least_size { MIN_SIZE ≤ _size }
-    requires greatest_size { _size ≤ MAX_SIZE }
+    requires least_size { MIN_SIZE ≤ size }
+    requires greatest_size { size ≤ MAX_SIZE }
     requires least_workers { 1 ≤ _workers }
     requires greatest_workers { _workers ≤ MAX_WORKERS }
-    ensures { IfOk result (ArePredictions trace.now) }
+    ensures found { IfOk result (ArePredictions trace.now size) }
+    ensures few { IfOk result (λ _. HasFewPatterns trace.now.events size) }
+    ensures many { IsErrOf result FindFault.TooManyPatterns → HasMorePatterns trace.now.events size }
 {
     let index = Index::build(alloc, trace)?;
-    // The variables of a trace are not too many, as its index says, nor are its events.
-    let _ = index.trace().len();
-    let mut scan = RaceScan::new(alloc, &index, 0, MAX_VARS)?;
-    Ok(collect(alloc, &mut scan)?)
+    let classes = Classes::build(alloc, &index)?;
+    let patterns = list_patterns(alloc, &classes, size)?;
+    // The trace is lawful, as the number of its classes says.
+    let _ = classes.len();
+    Ok(find_listed(alloc, &classes, &patterns)?)
 }

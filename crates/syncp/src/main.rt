@@ -1,15 +1,19 @@
-//! Predicts data races from a trace of lock events, shows how each is met, runs scripts on threads and records such traces
-//! of them, and takes the scripts to each race.
+//! Predicts data races and deadlocks from a trace of lock events, shows how each is met, runs scripts on threads and records
+//! such traces of them, and takes the scripts to each race and each deadlock.
 #![tactic(auto)]
 
 mod analyse;
 mod behind;
 mod command;
+#[cfg(test)]
+mod deadlock_tests;
+mod deadlocks;
 mod fault_line;
 mod find;
 mod mode;
 mod outcome;
 mod parts;
+mod races;
 mod reach;
 mod reading;
 mod record_mode;

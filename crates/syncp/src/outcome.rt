@@ -62,6 +62,9 @@ pub enum Fault {
     /// The trace is no run of the script: the place is the first whose thread and operation are no step.
     #[error("no step of the script at place {0}")]
     NotAStep(u32),
+    /// The trace has more patterns up to the size than may be listed.
+    #[error("too many deadlock patterns")]
+    TooManyPatterns,
     /// The trace has fewer findings.
     #[error("no finding of that number")]
     NoFinding,
@@ -94,7 +97,8 @@ pub enum Status {
     Usage,
     /// The input is refused, and passes no limit.
     Refused,
-    /// The input is refused, since it passes a limit, or has fewer findings than the number that was asked for.
+    /// The input is refused, since it passes a limit, has too many deadlock patterns, or has fewer findings than the number
+    /// that was asked for. In the mode `run` it is the run that was recorded which may have too many patterns.
     Limit,
     /// The source's count of faults rose.
     ReadFault,

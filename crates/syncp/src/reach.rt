@@ -1,10 +1,10 @@
 // The mode `replay`.
-ghost use Rattle.std.specs.Prelude.{◌≡◌, ◌≤◌, ◌⊎◌, ℕ, List, Some, length, OnOk, MatchResult, IsErrOf};
+ghost use Rattle.std.specs.Prelude.{◌≡◌, ◌≤◌, ℕ, List, Some, length, OnOk, MatchResult, IsErrOf};
 ghost use Rattle.std.specs.Io.KnownBytes.{IsAtEnd};
 ghost use Rattle.sp_base.specs.Causes.{Rose};
 ghost use Rattle.sp_base.specs.Moves.{Took, Gained};
 ghost use Rattle.syncp.specs.Modes.{IsAccepted};
-ghost use Rattle.syncp.specs.Outcome.{Explains, FailsToRead, IsDone};
+ghost use Rattle.syncp.specs.Outcome.{Explains, FailsToRead, IsAnswered, IsDone};
 ghost use Rattle.syncp.specs.Output.{IsWithinLimit};
 ghost use Rattle.syncp.specs.Replayed.{IsReplay};
 ghost use Rattle.syncp.specs.Tasks.{Replay};
@@ -33,7 +33,7 @@ fn replay_source<R: Threads + Sync, S: Source, G: Gate>(
     requires least_workers { 1 ≤ workers }
     requires greatest_workers { workers ≤ MAX_WORKERS }
     ensures read { Took (S.left source.old) (S.left source.new) (λ input. IsWithinLimit input ×
-        MatchResult result (λ r. IsReplay input r.0 r.1) (λ fault. FailsToRead Replay (IsAtEnd (S.left source.new)) fault input)) }
+        MatchResult result (λ r. IsReplay size input r.0 r.1) (λ fault. FailsToRead (Replay size) (IsAtEnd (S.left source.new)) fault input)) }
     ensures ended { OnOk result (IsAtEnd (S.left source.new)) }
     ensures cause { IsErrOf result Fault.Read → Rose (S.faults source.old) (S.faults source.new) }
 {
@@ -46,8 +46,9 @@ fn replay_source<R: Threads + Sync, S: Source, G: Gate>(
 /// of the scripts; its locations are not compared. Without a line `%%` the trace is empty.
 ///
 /// The source is read to its end before its text is looked at. A refusal comes before anything is written: first of the
-/// scripts, then of the trace, and then `NotAStep`, which comes exactly where the trace is no run of the scripts, with the
-/// first place that is no step. `Read` and `Write` come only where the count of faults of the source or of the sink rose;
+/// scripts, then of the trace, then `NotAStep`, which comes exactly where the trace is no run of the scripts, with the
+/// first place that is no step, and then `TooManyPatterns`, which comes exactly where such a run has too many patterns of at
+/// most that size. `Read` and `Write` come only where the count of faults of the source or of the sink rose;
 /// after `Write`, and after want of memory, a front of the replays is written.
 pub fn reach<R: Threads + Sync, S: Source, K: Sink, G: Gate>(
     rt: &R,
@@ -65,7 +66,7 @@ pub fn reach<R: Threads + Sync, S: Source, K: Sink, G: Gate>(
 
     // What was read and written explains the outcome.
     ensures outcome { Took (S.left source.old) (S.left source.new) (λ input. IsWithinLimit input ×
-        Gained (K.text out.old) (K.text out.new) (Explains Replay (IsAtEnd (S.left source.new)) result input)) }
+        Gained (K.text out.old) (K.text out.new) (Explains (Replay size) (IsAtEnd (S.left source.new)) result input)) }
     ensures ended { IsDone result → IsAtEnd (S.left source.new) }
 
     // A fault of the outside comes only where a count of faults rose.
@@ -73,9 +74,9 @@ pub fn reach<R: Threads + Sync, S: Source, K: Sink, G: Gate>(
     ensures write { result ≡ Outcome.Refused Fault.Write → Rose (K.faults out.old) (K.faults out.new) }
 
     // Scripts and a run of them are replayed, unless the outside fails or memory runs out.
-    ensures complete { (all : List ℕ) → S.left source.old ≡ Some all → IsAccepted Replay all →
+    ensures complete { (all : List ℕ) → S.left source.old ≡ Some all → IsAccepted (Replay size) all →
         ¬ Rose (S.faults source.old) (S.faults source.new) → ¬ Rose (K.faults out.old) (K.faults out.new) →
-        IsDone result ⊎ (result ≡ Outcome.Refused Fault.OutOfMemory) }
+        IsAnswered (Replay size) result }
 {
     exclusive_law();
     of_law();

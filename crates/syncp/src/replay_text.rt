@@ -2,7 +2,7 @@
 ghost use Rattle.std.specs.Prelude.{◌≡◌, ◌++◌, IfOk, OnOk};
 ghost use Rattle.replayer.specs.Replayed.{IsFindingOf, IsReplayOf};
 ghost use Rattle.report.specs.ReachedLines.{reached_line};
-ghost use Rattle.syncp.specs.Predictions.{ArePredictions};
+ghost use Rattle.syncp.specs.Predictions.{ArePredicted};
 ghost use Rattle.syncp.specs.Replayed.{AddsReplay, WritesReplays};
 
 use replayer::replay;
@@ -44,7 +44,7 @@ pub fn replay_text(
     findings: &Findings,
 ) -> Result<SureSink, OutOfMemory>
     requires script { recording.now.machine.script ≡ script.now }
-    requires predicted { ArePredictions recording.now.trace findings.now }
+    requires predicted { ArePredicted recording.now.trace findings.now }
     ensures { IfOk result (λ text. WritesReplays script.now recording.now.trace findings.now text) }
 {
     let mut lines = SureSink::new(alloc);

@@ -5,7 +5,7 @@ ghost use Rattle.syncp.specs.Replaying.{FailsToReplay, Records, ReplaysRun};
 ghost use Rattle.syncp.specs.Replayed.{IsReplay};
 
 use crate::behind::trace_behind;
-use crate::find::find;
+use crate::find::{FindFault, find};
 use crate::outcome::Fault;
 use crate::parts::input_parts;
 use crate::replay_text::replay_text;
@@ -33,7 +33,7 @@ fn recording_of<'a>(
     }
 }
 
-// The replays of what is found in a recording, and whether anything is.
+// The replays of what is found in a recording with patterns of at most that size, and whether anything is.
 fn replays_in<R: Threads + Sync, G: Gate>(
     rt: &R,
     alloc: Global,
@@ -48,10 +48,12 @@ fn replays_in<R: Threads + Sync, G: Gate>(
     requires least_workers { 1 ≤ workers }
     requires greatest_workers { workers ≤ MAX_WORKERS }
     requires script { recording.now.machine.script ≡ script.now }
-    ensures { ReplaysRun script.now recording.now.trace result }
+    ensures { ReplaysRun size script.now recording.now.trace result }
 {
-    let Ok(findings) = find(rt, alloc, recording.trace(), size, workers, gate) else {
-        return Err(Fault::OutOfMemory);
+    let findings = match find(rt, alloc, recording.trace(), size, workers, gate) {
+        Ok(findings) => findings,
+        Err(FindFault::TooManyPatterns) => return Err(Fault::TooManyPatterns),
+        Err(FindFault::OutOfMemory) => return Err(Fault::OutOfMemory),
     };
     let Ok(text) = replay_text(alloc, script, recording, &findings) else {
         return Err(Fault::OutOfMemory);
@@ -61,8 +63,8 @@ fn replays_in<R: Threads + Sync, G: Gate>(
 
 /// The text of the replays of an input of scripts and a trace, and whether there is any.
 ///
-/// A refusal is that of the scripts, of the trace, or the first place that is no step of the scripts, in this order. The
-/// only other error is want of memory.
+/// A refusal is that of the scripts, of the trace, the first place that is no step of the scripts, or `TooManyPatterns`,
+/// in this order. The only other error is want of memory.
 pub fn replays_of<R: Threads + Sync, G: Gate>(
     rt: &R,
     alloc: Global,
@@ -76,7 +78,7 @@ pub fn replays_of<R: Threads + Sync, G: Gate>(
     requires least_workers { 1 ≤ workers }
     requires greatest_workers { workers ≤ MAX_WORKERS }
     requires few { length input.now ≤ MAX_INPUT }
-    ensures { MatchResult result (λ r. IsReplay input.now r.0 r.1) (λ fault. FailsToReplay fault input.now) }
+    ensures { MatchResult result (λ r. IsReplay size input.now r.0 r.1) (λ fault. FailsToReplay size fault input.now) }
 {
     locations_do_not_count();
     let (scripts, trace) = input_parts(input);

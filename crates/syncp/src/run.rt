@@ -7,7 +7,7 @@ ghost use Rattle.syncp.specs.Modes.{IsAccepted};
 ghost use Rattle.syncp.specs.Outcome.{Explains};
 ghost use Rattle.syncp.specs.Outcome as outcome;
 ghost use Rattle.syncp.specs.Output.{IsWithinLimit};
-ghost use Rattle.syncp.specs.Run.{Means, Leaves, TellsOf, IsDone};
+ghost use Rattle.syncp.specs.Run.{Means, Leaves, TellsOf, IsAnswered};
 ghost use Rattle.syncp.specs.Tasks.{task_of};
 ghost use Rattle.syncp.specs.Words.{IsInRange, reading_of};
 ghost use Rattle.syncp.specs.declared.words.Words.{Words as Reading};
@@ -36,7 +36,8 @@ use std::thread::Threads;
 /// The words are the program's name, the mode and options. Where they have no reading nothing is read or written to
 /// `out`, and `err` gains a text for the user, which is that of help where help was asked for. A refusal of the input
 /// comes at its first fault and before anything is written to `out`; in `record`, `run` and `replay` the source is read to
-/// its end first.
+/// its end first. A trace that has more deadlock patterns of at most the size that is asked for than may be listed is
+/// refused too; in `run` the recorded trace and the mark behind it are written before.
 /// The line on `err` is tried once, and a fault there changes no status.
 pub fn run<R: Threads + Wait + Sync, S: Source, K: Sink, E: Sink, G: Gate + Sync>(
     rt: &R,
@@ -59,12 +60,13 @@ pub fn run<R: Threads + Wait + Sync, S: Source, K: Sink, E: Sink, G: Gate + Sync
     ensures read { result ≡ Status.ReadFault → Rose (S.faults source.old) (S.faults source.new) }
     ensures write { result ≡ Status.WriteFault → Rose (K.faults out.old) (K.faults out.new) }
 
-    // An input in the grammar of the mode, which has the finding that is asked for, is answered, unless the outside fails
-    // or memory runs out.
+    // An input in the grammar of the mode, which has not too many patterns, and has the finding that is asked for, is
+    // answered, unless the outside fails or memory runs out. In the mode `run` it is the run that was recorded which may have
+    // too many patterns.
     ensures complete { (reading : Reading) → reading_of (map string_bytes words.now) ≡ Some reading →
         (all : List ℕ) → S.left source.old ≡ Some all → IsAccepted (task_of reading) all →
         ¬ Rose (S.faults source.old) (S.faults source.new) → ¬ Rose (K.faults out.old) (K.faults out.new) →
-        IsDone result ⊎ (result ≡ Status.NoMemory) }
+        IsAnswered (task_of reading) result }
 {
     match read_words(alloc, words) {
         Ok(reading) => run_in(rt, alloc, reading, source, out, err, gate),
@@ -104,7 +106,7 @@ fn run_in<R: Threads + Wait + Sync, S: Source, K: Sink, E: Sink, G: Gate + Sync>
     ensures write { result ≡ Status.WriteFault → Rose (K.faults out.old) (K.faults out.new) }
     ensures complete { (all : List ℕ) → S.left source.old ≡ Some all → IsAccepted (task_of reading) all →
         ¬ Rose (S.faults source.old) (S.faults source.new) → ¬ Rose (K.faults out.old) (K.faults out.new) →
-        IsDone result ⊎ (result ≡ Status.NoMemory) }
+        IsAnswered (task_of reading) result }
 {
     match outcome_of(rt, alloc, reading, source, out, gate) {
         Outcome::Done { found } => { if found { Status::Found } else { Status::Clean } }
@@ -129,7 +131,7 @@ fn outcome_of<R: Threads + Wait + Sync, S: Source, K: Sink, G: Gate + Sync>(
     ensures write { result ≡ Outcome.Refused Fault.Write → Rose (K.faults out.old) (K.faults out.new) }
     ensures complete { (all : List ℕ) → S.left source.old ≡ Some all → IsAccepted (task_of reading) all →
         ¬ Rose (S.faults source.old) (S.faults source.new) → ¬ Rose (K.faults out.old) (K.faults out.new) →
-        outcome.IsDone result ⊎ (result ≡ Outcome.Refused Fault.OutOfMemory) }
+        outcome.IsAnswered (task_of reading) result }
 {
     match reading.mode {
         Mode::Predict => analyse(rt, alloc, reading.size, reading.workers, source, out, gate),

@@ -1,5 +1,5 @@
 // What the mode `run` leaves, and what the modes that run scripts leave where several runs are possible.
-use crate::tests::{Left, leaves, leaves_failing, ran_by};
+use crate::tests::{Left, Ran, leaves, leaves_failing, ran_by};
 use sp_base::{Gate, OpenGate, ThreadId};
 use std::alloc::{AllocError, Global};
 use std::sync::Wait;
@@ -16,6 +16,12 @@ const APART: &str = "thread T0\nwrite X 1\nthread T1\nwrite Y 1\n";
 // The most turns that a thread waits for another.
 const MOST_TURNS: u32 = 10_000_000;
 
+// Whether a run left one of these texts, and this status.
+fn is_one_of(ran: &Ran, outs: &[&str], code: u8) -> bool {
+    let written = outs.iter().any(|out| out.as_bytes() == ran.out.text());
+    written && ran.err.text().is_empty() && ran.status.code() == code
+}
+
 // Whether a mode leaves one of these texts, and this status.
 fn leaves_one_of<R: Threads + Wait + Sync, G: Gate + Sync>(
     rt: &R,
@@ -27,8 +33,7 @@ fn leaves_one_of<R: Threads + Wait + Sync, G: Gate + Sync>(
     code: u8,
 ) -> Result<bool, AllocError> {
     let ran = ran_by(rt, alloc, &["syncp", mode], script.as_bytes(), 1_000, gate)?;
-    let written = outs.iter().any(|out| out.as_bytes() == ran.out.text());
-    Ok(written && ran.err.text().is_empty() && ran.status.code() == code)
+    Ok(is_one_of(&ran, outs, code))
 }
 
 #[test]
@@ -73,16 +78,26 @@ fn runs_where_one_is_possible(rt: HostRuntime) -> Result<(), Fail> {
 fn runs_of_crossed_locks(rt: HostRuntime) -> Result<(), Fail> {
     let script =
         "thread T0\nlock A\nlock B\nunlock B\nunlock A\nthread T1\nlock B\nlock A\nunlock A\nunlock B\n";
-    let outs = [
-        "T0|acq(A)|2\nT0|acq(B)|3\nT0|rel(B)|4\nT0|rel(A)|5\nT1|acq(B)|7\nT1|acq(A)|8\nT1|rel(A)|9\nT1|rel(B)|10\n%%\nraces 0 deadlocks 0\nreached 0\nend T0\nend T1\n",
-        "T0|acq(A)|2\nT0|acq(B)|3\nT0|rel(B)|4\nT1|acq(B)|7\nT0|rel(A)|5\nT1|acq(A)|8\nT1|rel(A)|9\nT1|rel(B)|10\n%%\nraces 0 deadlocks 0\nreached 0\nend T0\nend T1\n",
-        "T1|acq(B)|7\nT1|acq(A)|8\nT1|rel(A)|9\nT1|rel(B)|10\nT0|acq(A)|2\nT0|acq(B)|3\nT0|rel(B)|4\nT0|rel(A)|5\n%%\nraces 0 deadlocks 0\nreached 0\nend T0\nend T1\n",
-        "T1|acq(B)|7\nT1|acq(A)|8\nT1|rel(A)|9\nT0|acq(A)|2\nT1|rel(B)|10\nT0|acq(B)|3\nT0|rel(B)|4\nT0|rel(A)|5\n%%\nraces 0 deadlocks 0\nreached 0\nend T0\nend T1\n",
+    let whole = [
+        "T0|acq(A)|2\nT0|acq(B)|3\nT0|rel(B)|4\nT0|rel(A)|5\nT1|acq(B)|7\nT1|acq(A)|8\nT1|rel(A)|9\nT1|rel(B)|10\n%%\ndeadlock 1 5 at 3 8 keep 1 1\nraces 0 deadlocks 1\nreplay 1 T0|acq(B) T1|acq(A)\nreached 1\nend T0\nend T1\n",
+        "T0|acq(A)|2\nT0|acq(B)|3\nT0|rel(B)|4\nT1|acq(B)|7\nT0|rel(A)|5\nT1|acq(A)|8\nT1|rel(A)|9\nT1|rel(B)|10\n%%\ndeadlock 1 5 at 3 8 keep 1 1\nraces 0 deadlocks 1\nreplay 1 T0|acq(B) T1|acq(A)\nreached 1\nend T0\nend T1\n",
+        "T1|acq(B)|7\nT1|acq(A)|8\nT1|rel(A)|9\nT1|rel(B)|10\nT0|acq(A)|2\nT0|acq(B)|3\nT0|rel(B)|4\nT0|rel(A)|5\n%%\ndeadlock 1 5 at 8 3 keep 1 1\nraces 0 deadlocks 1\nreplay 1 T1|acq(A) T0|acq(B)\nreached 1\nend T0\nend T1\n",
+        "T1|acq(B)|7\nT1|acq(A)|8\nT1|rel(A)|9\nT0|acq(A)|2\nT1|rel(B)|10\nT0|acq(B)|3\nT0|rel(B)|4\nT0|rel(A)|5\n%%\ndeadlock 1 5 at 8 3 keep 1 1\nraces 0 deadlocks 1\nreplay 1 T1|acq(A) T0|acq(B)\nreached 1\nend T0\nend T1\n",
+    ];
+    let stood = [
         "T0|acq(A)|2\nT1|acq(B)|7\n%%\nraces 0 deadlocks 0\nreached 0\nblocked T0 at acq(B)\nblocked T1 at acq(A)\n",
         "T1|acq(B)|7\nT0|acq(A)|2\n%%\nraces 0 deadlocks 0\nreached 0\nblocked T0 at acq(B)\nblocked T1 at acq(A)\n",
     ];
     for _ in 0..20 {
-        assert!(rt; leaves_one_of(&rt, rt.alloc(), "run", script, &OpenGate, &outs, 0)?);
+        let ran = ran_by(
+            &rt,
+            rt.alloc(),
+            &["syncp", "run"],
+            script.as_bytes(),
+            1_000,
+            &OpenGate,
+        )?;
+        assert!(rt; is_one_of(&ran, &whole, 1) || is_one_of(&ran, &stood, 0));
     }
     Ok(())
 }

@@ -1,11 +1,12 @@
 // The text of a run: what is recorded of scripts, found in it and replayed, and how the threads ended.
-ghost use Rattle.std.specs.Prelude.{◌≡◌, ◌≤◌, IfOk};
+ghost use Rattle.std.specs.Prelude.{◌≡◌, ◌≤◌, ◌++◌, IfOk};
 ghost use Rattle.script_machine.specs.Held.{meaning};
 ghost use Rattle.script_machine.specs.Machine.{IsComplete};
-ghost use Rattle.syncp.specs.Predictions.{ArePredictions};
-ghost use Rattle.syncp.specs.Runs.{WritesRun, run_text};
+ghost use Rattle.std_text.specs.Writing.{trace_text};
+ghost use Rattle.syncp.specs.Predictions.{ArePredicted};
+ghost use Rattle.syncp.specs.Runs.{IsRunText, mark_line, run_text};
 
-use crate::find::find;
+use crate::find::{FindFault, find};
 use crate::replay_text::replay_text;
 use recorder::record;
 use report::{write_ends, write_report, write_trace};
@@ -18,6 +19,26 @@ use std::sync::Wait;
 use std::thread::Threads;
 use trace_laws::Findings;
 
+/// What is written of a run.
+#[derive(Debug, Drop)]
+pub enum RunText {
+    /// The whole text, and whether anything is found in the run.
+    Whole { text: SureSink, found: bool },
+    /// The front up to the mark: the run has too many deadlock patterns.
+    Cut(SureSink),
+}
+
+// The trace of a recording, and the mark.
+fn front_text(alloc: Global, script: &Script, recording: &Recording) -> Result<SureSink, WriteFault>
+    requires { recording.now.machine.script ≡ script.now }
+    ensures { IfOk result (λ front. front ≡ trace_text script.now.names recording.now.trace.events ++ mark_line) }
+{
+    let mut front = SureSink::new(alloc);
+    write_trace(alloc, &mut front, recording.trace(), script.names())?;
+    write_all(&mut front, b"%%\n")?;
+    Ok(front)
+}
+
 // The trace of a recording, the mark, the report, the lines of the replays and those of the threads' ends, in this order.
 fn gathered(
     alloc: Global,
@@ -27,20 +48,18 @@ fn gathered(
     replays: &SureSink,
 ) -> Result<SureSink, WriteFault>
     requires script { recording.now.machine.script ≡ script.now }
-    requires predicted { ArePredictions recording.now.trace findings.now }
+    requires predicted { ArePredicted recording.now.trace findings.now }
     ensures { IfOk result (λ whole. whole ≡ run_text script.now recording.now.trace.events (meaning recording.now.machine) findings.now replays.now) }
 {
-    let mut whole = SureSink::new(alloc);
-    write_trace(alloc, &mut whole, recording.trace(), script.names())?;
-    write_all(&mut whole, b"%%\n")?;
+    let mut whole = front_text(alloc, script, recording)?;
     write_report(alloc, &mut whole, recording.trace(), findings)?;
     write_all(&mut whole, replays.text())?;
     write_ends(alloc, &mut whole, recording.machine(), script.names())?;
     Ok(whole)
 }
 
-// The text of a run that was recorded, and whether anything is found in it.
-#[tactic(auto, using(crate::proofs::WholeRuns::run_written))]
+// What is written of a run that was recorded.
+#[tactic(auto, using(crate::proofs::WholeRuns::run_written, crate::proofs::WholeRuns::run_cut))]
 fn text_of_recording<R: Threads + Sync, G: Gate>(
     rt: &R,
     alloc: Global,
@@ -49,28 +68,36 @@ fn text_of_recording<R: Threads + Sync, G: Gate>(
     script: &Script,
     recording: &Recording,
     gate: &G,
-) -> Result<(SureSink, bool), OutOfMemory>
+) -> Result<RunText, OutOfMemory>
     requires least_size { MIN_SIZE ≤ size }
     requires greatest_size { size ≤ MAX_SIZE }
     requires least_workers { 1 ≤ workers }
     requires greatest_workers { workers ≤ MAX_WORKERS }
     requires script { recording.now.machine.script ≡ script.now }
     requires complete { IsComplete script.now (meaning recording.now.machine) }
-    ensures { IfOk result (λ run. WritesRun script.now run.0 run.1) }
+    ensures { IfOk result (IsRunText size script.now) }
 {
-    let Ok(findings) = find(rt, alloc, recording.trace(), size, workers, gate) else {
-        return Err(OutOfMemory);
+    let findings = match find(rt, alloc, recording.trace(), size, workers, gate) {
+        Ok(findings) => findings,
+        Err(FindFault::TooManyPatterns) => {
+            let Ok(front) = front_text(alloc, script, recording) else {
+                return Err(OutOfMemory);
+            };
+            return Ok(RunText::Cut(front));
+        }
+        Err(FindFault::OutOfMemory) => return Err(OutOfMemory),
     };
     let replays = replay_text(alloc, script, recording, &findings)?;
     let Ok(text) = gathered(alloc, script, recording, &findings, &replays) else {
         return Err(OutOfMemory);
     };
-    Ok((text, findings.len() > 0))
+    let found = findings.len() > 0;
+    Ok(RunText::Whole { text, found })
 }
 
-/// Runs a script on threads until none of them can step, and answers the text of the run that was recorded, and whether
-/// anything is found in it: its trace, a line `%%`, its report, the lines of the replays of what is found in it, and how
-/// its threads ended.
+/// Runs a script on threads until none of them can step, and answers what is written of the run that was recorded: its
+/// trace, a line `%%`, its report with deadlock patterns of at most that size, the lines of the replays of what is found in
+/// it, and how its threads ended. Where the run has too many patterns it is the trace and the line alone.
 ///
 /// The only error is want of memory.
 pub fn text_of_run<R: Threads + Wait + Sync, G: Gate + Sync>(
@@ -80,12 +107,12 @@ pub fn text_of_run<R: Threads + Wait + Sync, G: Gate + Sync>(
     workers: u8,
     script: &Script,
     gate: &G,
-) -> Result<(SureSink, bool), OutOfMemory>
+) -> Result<RunText, OutOfMemory>
     requires least_size { MIN_SIZE ≤ size }
     requires greatest_size { size ≤ MAX_SIZE }
     requires least_workers { 1 ≤ workers }
     requires greatest_workers { workers ≤ MAX_WORKERS }
-    ensures { IfOk result (λ run. WritesRun script.now run.0 run.1) }
+    ensures { IfOk result (IsRunText size script.now) }
 {
     let recording = record(rt, alloc, script, gate)?;
     text_of_recording(rt, alloc, size, workers, script, &recording, gate)

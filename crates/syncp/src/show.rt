@@ -1,10 +1,10 @@
 // The mode `witness`.
-ghost use Rattle.std.specs.Prelude.{◌≡◌, ◌≤◌, ◌⊎◌, ℕ, List, Some};
+ghost use Rattle.std.specs.Prelude.{◌≡◌, ◌≤◌, ℕ, List, Some};
 ghost use Rattle.std.specs.Io.KnownBytes.{IsAtEnd};
 ghost use Rattle.sp_base.specs.Causes.{Rose};
 ghost use Rattle.sp_base.specs.Moves.{Took, Gained};
 ghost use Rattle.syncp.specs.Modes.{IsAccepted};
-ghost use Rattle.syncp.specs.Outcome.{Explains, IsDone};
+ghost use Rattle.syncp.specs.Outcome.{Explains, IsAnswered, IsDone};
 ghost use Rattle.syncp.specs.Output.{IsWithinLimit};
 ghost use Rattle.syncp.specs.Tasks.{Witness};
 
@@ -21,9 +21,10 @@ use std::thread::Threads;
 /// lines: the events of the least sync-preserving correct reordering that leaves the finding's places enabled, in the
 /// order of the trace and as a trace text. It may be empty.
 ///
-/// A refusal of the text comes before anything is written, as does `NoFinding`, which comes exactly where the whole input
-/// is a trace that has fewer findings. `Read` and `Write` come only where the count of faults of the source or of the sink
-/// rose; after `Write`, and after want of memory, a front of the witness is written.
+/// A refusal of the text comes before anything is written, as do `TooManyPatterns`, which comes exactly where the whole
+/// input is a trace that has too many patterns of at most that size, and `NoFinding`, which comes where it has not, and has
+/// fewer findings. `Read` and `Write` come only where the count of faults of the source or of the sink rose; after `Write`,
+/// and after want of memory, a front of the witness is written.
 pub fn show<R: Threads + Sync, S: Source, K: Sink, G: Gate>(
     rt: &R,
     alloc: Global,
@@ -43,7 +44,7 @@ pub fn show<R: Threads + Sync, S: Source, K: Sink, G: Gate>(
 
     // What was read and written explains the outcome.
     ensures outcome { Took (S.left source.old) (S.left source.new) (λ input. IsWithinLimit input ×
-        Gained (K.text out.old) (K.text out.new) (Explains (Witness finding) (IsAtEnd (S.left source.new)) result input)) }
+        Gained (K.text out.old) (K.text out.new) (Explains (Witness size finding) (IsAtEnd (S.left source.new)) result input)) }
     ensures ended { IsDone result → IsAtEnd (S.left source.new) }
 
     // A fault of the outside comes only where a count of faults rose.
@@ -51,9 +52,9 @@ pub fn show<R: Threads + Sync, S: Source, K: Sink, G: Gate>(
     ensures write { result ≡ Outcome.Refused Fault.Write → Rose (K.faults out.old) (K.faults out.new) }
 
     // The witness of a finding of the trace that the input says is written, unless the outside fails or memory runs out.
-    ensures complete { (all : List ℕ) → S.left source.old ≡ Some all → IsAccepted (Witness finding) all →
+    ensures complete { (all : List ℕ) → S.left source.old ≡ Some all → IsAccepted (Witness size finding) all →
         ¬ Rose (S.faults source.old) (S.faults source.new) → ¬ Rose (K.faults out.old) (K.faults out.new) →
-        IsDone result ⊎ (result ≡ Outcome.Refused Fault.OutOfMemory) }
+        IsAnswered (Witness size finding) result }
 {
     let (trace, names) = match read_trace(alloc, source) {
         Ok(read) => read,
@@ -61,6 +62,7 @@ pub fn show<R: Threads + Sync, S: Source, K: Sink, G: Gate>(
     };
     let findings = match find(rt, alloc, &trace, size, workers, gate) {
         Ok(findings) => findings,
+        Err(FindFault::TooManyPatterns) => return Outcome::Refused(Fault::TooManyPatterns),
         Err(FindFault::OutOfMemory) => return Outcome::Refused(Fault::OutOfMemory),
     };
     if findings.len() < finding {

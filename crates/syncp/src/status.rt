@@ -55,6 +55,7 @@ pub fn status_of(fault: &Fault) -> Status
         Fault::Text { fault, .. } => refusal_status(passes_limit(&fault.kind)),
         Fault::Script(fault) => refusal_status(script_passes_limit(&fault.kind)),
         Fault::NotAStep(_) => Status::Refused,
+        Fault::TooManyPatterns => Status::Limit,
         Fault::NoFinding => Status::Limit,
         Fault::Read => Status::ReadFault,
         Fault::Write => Status::WriteFault,

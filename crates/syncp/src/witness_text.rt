@@ -2,8 +2,8 @@
 ghost use Rattle.std.specs.Prelude.{◌≡◌, ◌<◌, ◌≤◌, All, IfOk, length};
 ghost use Rattle.replayer.specs.Replays.{along};
 ghost use Rattle.std_text.specs.Writing.{AreNamed, trace_text};
-ghost use Rattle.syncp.specs.Predictions.{ArePredictions, count_of_findings};
-ghost use Rattle.syncp.specs.Witnesses.{WritesWitness, target_of};
+ghost use Rattle.syncp.specs.Predictions.{ArePredicted, count_of_findings};
+ghost use Rattle.syncp.specs.Witnesses.{WritesFinding, target_of};
 
 use replayer::reorder;
 use sp_base::OutOfMemory;
@@ -55,10 +55,10 @@ pub fn witness_text(
     number: u32,
 ) -> Result<Vec<u8>, OutOfMemory>
     requires named { AreNamed names.now trace.now.events }
-    requires predicted { ArePredictions trace.now findings.now }
+    requires predicted { ArePredicted trace.now findings.now }
     requires least { 1 ≤ number }
     requires most { number ≤ count_of_findings findings.now }
-    ensures { IfOk result (λ text. WritesWitness names.now trace.now number text.items) }
+    ensures { IfOk result (λ text. WritesFinding names.now trace.now findings.now number text.items) }
 {
     let keep = keep_of(findings.get(number - 1));
     let places = reorder(alloc, trace, keep)?;

@@ -1,9 +1,14 @@
-use Rattle.std.proofs.Common.{sym, ap, subst}
-use Rattle.sp_base.specs.declared.limits.TheConstants.{MAX_VARS}
+use Rattle.std.proofs.Common.{subst, ◌∙◌}
 use Rattle.trace_laws.specs.Traces.{History}
-use Rattle.trace_index.specs.Accessed.{AreVariablesBelow}
-use Rattle.race_scan.specs.Scans.{Scan}
+use Rattle.syncp.specs.Predictions.{ArePredictions}
+use Rattle.syncp.proofs.Deadly.{predicted, ranked}
 use Rattle.syncp.proofs.find.find.Goals as goal
 
-pub collect-requires-clause-variables : goal.collect-requires-clause-variables
-collect-requires-clause-variables g c = subst (λ (h : History). AreVariablesBelow h.events MAX_VARS) (sym (ap (λ (s : Scan). s.trace) c.in_ok-scan.ensures)) c.trace.ensures.variables
+pub find_listed-requires : goal.find_listed-requires
+find_listed-requires g c = ranked c.in_ok-classes.classes c.args.size c.in_ok-patterns.patterns c.requires.greatest_size c.in_ok-patterns.ensures.listed
+
+pub returns-clause-found : goal.returns-clause-found
+returns-clause-found g c =
+    let found = c.in_ok-find_listed.field-0 in
+    subst (λ (h : History). ArePredictions h c.args.size found) (c.in_ok-classes.ensures.trace ∙ c.in_ok-index.ensures)
+    (predicted c.args.size c.in_ok-classes.classes c.in_ok-patterns.patterns found c.len.ensures.trace c.in_ok-patterns.ensures.listed c.in_ok-find_listed.ensures.races c.in_ok-find_listed.ensures.deadlocks)

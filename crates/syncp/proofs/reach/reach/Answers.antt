@@ -10,10 +10,10 @@ returns-in-Err-clause-complete g c = λ all left std kept_source kept_out.
     let read = c.in-Err.ensures.read in
     let rest = g.S.Source.left c.replay_source.new.source in
     let took = subst (λ o. Consumes o rest read.0) left read.1 in
-    let never = replay_not_refused c.exclusive_law.ensures c.of_law.ensures c.in-Err.fault rest all read.0 took std in
-    reading_completes Replay _ read.0 c.in-Err.fault never read.2.1 (λ is. kept_source (c.in-Err.ensures.cause (ap Err is)))
+    let never = replay_not_refused c.exclusive_law.ensures c.of_law.ensures c.in-Err.fault c.args.size rest all read.0 took std in
+    reading_completes (Replay c.args.size) _ read.0 c.in-Err.fault never read.2.1 (λ is. kept_source (c.in-Err.ensures.cause (ap Err is)))
 
 pub returns-in-Err-clause-outcome : goal.returns-in-Err-clause-outcome
 returns-in-Err-clause-outcome g c =
     let read = c.in-Err.ensures.read in
-    (read.0, read.1, (read.2.0, ([], Appends-nil _, nothing_written Replay _ c.in-Err.fault read.0 read.2.1)))
+    (read.0, read.1, (read.2.0, ([], Appends-nil _, nothing_written (Replay c.args.size) _ c.in-Err.fault read.0 read.2.1)))

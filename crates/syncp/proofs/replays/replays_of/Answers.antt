@@ -10,5 +10,5 @@ returns g c =
     let recording = c.in_ok-recording.recording in
     let read = c.in_ok-trace.ensures in
     let records = subst (λ es. Records script es (Ok recording)) (ap (λ (h : History). h.events) read.2) c.in_ok-recording.ensures in
-    replays_end c.args.input.now c.input_parts.result.0.now c.input_parts.result.1.now (c.count_newlines.result + 2) c.requires.few c.input_parts.ensures.scripts c.input_parts.ensures.trace (ap (λ n. n + 2) c.count_newlines.ensures.count)
+    replays_end c.args.size c.args.input.now c.input_parts.result.0.now c.input_parts.result.1.now (c.count_newlines.result + 2) c.requires.few c.input_parts.ensures.scripts c.input_parts.ensures.trace (ap (λ n. n + 2) c.count_newlines.ensures.count)
     script c.in_ok-script.ensures c.names.result.now c.names.ensures.value read.0 read.1 c.locations_do_not_count.ensures recording records c.replays_in.result c.replays_in.ensures

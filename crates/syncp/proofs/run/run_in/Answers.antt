@@ -1,4 +1,4 @@
-use Rattle.syncp.proofs.Ran.{refused_means, only_memory}
+use Rattle.syncp.proofs.Ran.{refused_means, refusal_answers}
 use Rattle.syncp.proofs.run.run_in.Goals as goal
 
 pub returns-in-Refused-clause-outcome : goal.returns-in-Refused-clause-outcome
@@ -10,4 +10,4 @@ returns-in-Refused-clause-outcome g c =
 pub returns-in-Refused-clause-complete : goal.returns-in-Refused-clause-complete
 returns-in-Refused-clause-complete g c = λ all left std kept_source kept_out.
     let told = c.refuse.ensures.told in
-    only_memory _ c.in-Refused.fault c.refuse.result told.0 told.2 (c.in-Refused.ensures.complete all left std kept_source kept_out)
+    refusal_answers _ _ c.in-Refused.fault c.refuse.result told.0 told.2 (c.in-Refused.ensures.complete all left std kept_source kept_out)

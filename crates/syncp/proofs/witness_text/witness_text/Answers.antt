@@ -1,9 +1,12 @@
-use Rattle.std.proofs.Common.{ap, ◌∙◌}
+use Rattle.std.proofs.Common.{◌-◌, ap, ◌∙◌}
 use Rattle.std.proofs.lemmas.Result.{IfOk-weaker}
 use Rattle.std_text.specs.Writing.{trace_text}
 use Rattle.replayer.specs.Replays.{along}
-use Rattle.syncp.proofs.Witnessing.{kept_within, writes}
+use Rattle.syncp.proofs.Witnessing.{keep_size, kept_within, writes}
 use Rattle.syncp.proofs.witness_text.witness_text.Goals as goal
+
+pub reorder-requires : goal.reorder-requires
+reorder-requires c = keep_size c.args.trace.now c.args.findings.now (c.args.number - 1) c.get.result.now c.keep_of-keep.result.now c.requires.predicted c.get.ensures c.keep_of-keep.ensures
 
 pub event_lines-requires-clause-within : goal.event_lines-requires-clause-within
 event_lines-requires-clause-within c = rw c.deref.ensures.value (kept_within c.args.trace.now.events _ c.in_ok-places.places.items c.in_ok-places.ensures.kept)

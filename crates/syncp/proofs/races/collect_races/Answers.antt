@@ -1,8 +1,8 @@
 use Rattle.std.proofs.Common.{◌≡◌, ◌+◌, [], ◌∷◌, length, ap, subst, ◌∙◌, arith, length-append}
 use Rattle.trace_laws.specs.Findings.{FoundRace}
 use Rattle.race_scan.specs.Scans.{Scan, Gives, found_race}
-use Rattle.syncp.proofs.Scanning.{predicted_one, predicted_all, found_within}
-use Rattle.syncp.proofs.find.collect.Goals as goal
+use Rattle.syncp.proofs.Scanning.{race_more, all_races, found_within}
+use Rattle.syncp.proofs.races.collect_races.Goals as goal
 
 pub loop-found-preserved : goal.loop-found-preserved
 loop-found-preserved c =
@@ -22,11 +22,11 @@ loop-found-preserved c =
       within = let less = found_within trace at.scan one at.invariant.all given.0 in omega arith;
       few = omega (arith, given.0.from_passed, at.invariant.few);
       alone = added.1 ∙ at.invariant.alone;
-      scanned = rw (passed, added.0) (predicted_one trace at.scan at.found.races one c.requires.variables at.invariant.all at.invariant.scanned given.0);
+      scanned = rw (passed, added.0) (race_more trace at.scan at.found.races one c.requires.variables at.invariant.all at.invariant.scanned given.0);
     }
 
-pub returns : goal.returns
-returns c =
+pub returns-clause-races : goal.returns-clause-races
+returns-clause-races c =
     let at = c.loop-found in
     let given = subst (λ o. Gives at.scan o c.next.new.self) c.in_default.is c.in_ok-race.ensures.ok in
-    predicted_all c.args.scan.now.trace at.scan at.found c.requires.variables at.invariant.all at.invariant.scanned at.invariant.alone at.invariant.within given.0
+    all_races c.args.scan.now.trace at.scan at.found.races c.requires.variables at.invariant.all at.invariant.scanned at.invariant.within at.invariant.few given.0
