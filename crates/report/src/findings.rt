@@ -10,8 +10,8 @@ use sp_base::{OutOfMemory, Sink, WriteFault, write_all};
 use std::alloc::Global;
 use trace_laws::{Finding, Findings, Trace};
 
-// How many races there are: they come first.
-fn count_of_races(findings: &Findings) -> u32
+/// How many races there are: they come first.
+pub fn count_of_races(findings: &Findings) -> u32
     ensures { result ≡ length findings.now.races }
 {
     for number in 0..findings.len() {

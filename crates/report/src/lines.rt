@@ -128,7 +128,7 @@ pub(crate) fn line_of_finding(
 /// The last line of a report.
 ///
 /// The only error is want of memory.
-pub(crate) fn last_line(alloc: Global, races: u32, deadlocks: u32) -> Result<String, OutOfMemory>
+pub fn last_line(alloc: Global, races: u32, deadlocks: u32) -> Result<String, OutOfMemory>
     ensures { IfOk result (λ line. string_bytes line ≡ closing_line races deadlocks) }
 {
     match format!(in alloc; "races {races} deadlocks {deadlocks}\n") {

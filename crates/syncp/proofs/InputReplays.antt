@@ -15,7 +15,7 @@ use Rattle.syncp.specs.declared.outcome.Fault.{Fault}
 use Rattle.syncp.specs.declared.outcome.Fault.TheVariants as fault
 use Rattle.syncp.specs.Faults.{TellsRefusal}
 use Rattle.syncp.specs.Inputs.{scripts_in, trace_in, trace_line}
-use Rattle.syncp.specs.Predictions.{ArePredictions}
+use Rattle.predictor.specs.Predictions.{ArePredictions}
 use Rattle.syncp.specs.Recorded.{newlines}
 use Rattle.syncp.specs.Replayed.{Says, SaysRun, IsReplay, WritesReplays, reading_behind, run_of}
 use Rattle.syncp.specs.Replaying.{FailsToReplay, FailsToScript, Records, ReplaysRun}

@@ -1,6 +1,5 @@
 pub mod Came
 pub mod Ran
-pub mod Scanning
 pub mod GivenNames
 pub mod KeptLines
 pub mod Recordings
@@ -17,5 +16,6 @@ pub mod Witnessing
 pub mod Showing
 pub mod EndNames
 pub mod WholeRuns
-pub mod Deadly
-pub mod Ranked
+pub mod Answering
+pub mod Predicting
+pub mod Drawn

@@ -4,7 +4,7 @@ use Rattle.std.specs.declared.option.Option.{Option}
 use Rattle.std.specs.Io.KnownBytes.{Consumes, IsAtEnd}
 use Rattle.sp_base.specs.Moves.{IsFront}
 use Rattle.sp_base.specs.declared.limits.TheConstants.{MAX_INPUT}
-use Rattle.std_text.specs.Refusal.{LineFault, Refusal, ◌>>=◌}
+use Rattle.std_text.specs.Refusal.{Refusal, ◌>>=◌}
 use Rattle.std_text.specs.Framing.{Progress, start, after, closed}
 use Rattle.std_text.proofs.TextPieces.{after_fault}
 use Rattle.trace_laws.specs.Locations.{DoTheSame}
@@ -18,10 +18,10 @@ use Rattle.syncp.specs.declared.outcome.Fault.TheVariants as fault
 use Rattle.syncp.specs.declared.outcome.Outcome.TheVariants as outcome
 use Rattle.syncp.specs.declared.outcome.Status.{Status}
 use Rattle.syncp.specs.declared.outcome.Status.TheVariants.{NoMemory}
-use Rattle.syncp.specs.Output.{IsStd, IsKnownFault, HasNoFault, history_of}
+use Rattle.syncp.specs.Output.{IsStd, IsKnownFault, history_of}
 use Rattle.syncp.specs.Witnesses.{LacksFinding}
 use Rattle.syncp.proofs.Witnessing.{same_count}
-use Rattle.syncp.specs.Modes.{IsAccepted, IsFrontOf, IsRefusedIn, IsRefusalOf, IsCut, IsPastPatterns, HasNoFaultIn}
+use Rattle.syncp.specs.Modes.{IsAccepted, IsFrontOf, IsRefusedIn, IsRefusalOf, IsCut, IsPastPatterns}
 use Rattle.syncp.specs.Faults.{refusal_with, fault_line}
 use Rattle.syncp.specs.Outcome.{Explains, FailsToRead, FailsToReadTrace}
 use Rattle.syncp.specs.Outcome as done
@@ -29,8 +29,8 @@ use Rattle.syncp.specs.Run.{Means, Leaves, TellsOf, TellsLine, IsDone, IsAnswere
 use Rattle.syncp.specs.Inputs.{scripts_in}
 use Rattle.syncp.specs.Replayed.{SaysNoTrace, SaysNoRun, SaysManyPatterns, reading_behind}
 use Rattle.pattern_walk.specs.Listed.{HasMorePatterns}
-use Rattle.syncp.specs.Predictions.{HasFewPatterns}
-use Rattle.syncp.specs.Tasks.{Task, Predict, Record, Witness, Replay, Run, task_of}
+use Rattle.predictor.specs.Predictions.{HasFewPatterns}
+use Rattle.syncp.specs.Tasks.{Task, Predict, Record, Witness, Replay, Run, Bench, HasRead, task_of}
 use Rattle.syncp.specs.Statuses.{passes_limit, script_passes_limit, refusal_status, status_of}
 
 -- what is written where there are too many patterns
@@ -39,6 +39,7 @@ before_cut (Predict size) Ended input text e = inl e.1
 before_cut Record Ended input text e = inl e.1
 before_cut (Witness size number) Ended input text e = inl e.1
 before_cut (Replay size) Ended input text e = inl e.1
+before_cut (Bench size seed events) Ended input text e = inl e.1
 before_cut (Run size) Ended input text e = inr ((text, inr e.0, ([], sym (append-nil text))), e.1)
 
 -- what was written before a refusal
@@ -59,6 +60,7 @@ nothing_cut Record Ended input fails = absurd fails
 nothing_cut (Witness size number) Ended input fails = (fails, refl)
 nothing_cut (Replay size) Ended input fails = (fails, refl)
 nothing_cut (Run size) Ended input fails = absurd fails
+nothing_cut (Bench size seed events) Ended input fails = (fails, refl)
 
 -- a fault while the input was read, after which nothing is written
 pub nothing_written : (task : Task) (Ended : Type 0) (f : Fault) (input : List ℕ) → FailsToRead task Ended f input → Explains task Ended (outcome.Refused f) input []
@@ -66,7 +68,7 @@ nothing_written task Ended (fault.Text f holder) input fails = (fails, refl)
 nothing_written task Ended (fault.Script f) input fails = (fails, refl)
 nothing_written task Ended (fault.NotAStep place) input fails = (fails, refl)
 nothing_written task Ended fault.TooManyPatterns input fails = nothing_cut task Ended input fails
-nothing_written task Ended fault.NoFinding input fails = absurd fails
+nothing_written task Ended fault.NoFinding input fails = (fails, refl)
 nothing_written task Ended fault.Read input fails = (fails, refl)
 nothing_written task Ended fault.Write input fails = absurd fails
 nothing_written task Ended fault.OutOfMemory input fails = inl refl
@@ -108,7 +110,7 @@ memory_status ErrFailed status line (inr t) = t.0
 -- want of memory before the words were read
 pub words_not_read : (words : Option Words) (Ended ErrFailed : Type 0) (status : Status) (line : List ℕ) → TellsOf ErrFailed fault.OutOfMemory status line → Leaves words Ended ErrFailed status [] [] line
 words_not_read None Ended ErrFailed status line told = (inr (memory_status ErrFailed status line told), refl, refl)
-words_not_read (Some words) Ended ErrFailed status line told = refused_means (task_of words) Ended ErrFailed [] [] line fault.OutOfMemory status (inl refl) told
+words_not_read (Some words) Ended ErrFailed status line told = refused_means (task_of words) (HasRead (task_of words) Ended) ErrFailed [] [] line fault.OutOfMemory status (inl refl) told
 
 -- an input in the grammar of traces has no fault
 no_fault : (new : Option (List ℕ)) (all input : List ℕ) (p : Progress) (r : Refusal) → Consumes (Some all) new input → IsStd all p → IsKnownFault (IsAtEnd new) input r → ⊥
@@ -193,6 +195,7 @@ memory_answers Record = inr refl
 memory_answers (Witness size number) = inr refl
 memory_answers (Replay size) = inr refl
 memory_answers (Run size) = inr (inl refl)
+memory_answers (Bench size seed events) = inr refl
 
 -- an input that is not refused is read whole, where the source does not fail and memory is found
 pub reading_completes : (task : Task) (Ended : Type 0) (input : List ℕ) (f : Fault) → (IsRefusedIn task Ended f input → ⊥) → FailsToRead task Ended f input → (f ≡ fault.Read → ⊥) → done.IsAnswered task (outcome.Refused f)
@@ -200,7 +203,7 @@ reading_completes task Ended input (fault.Text f holder) never fails read = absu
 reading_completes task Ended input (fault.Script f) never fails read = absurd (never fails)
 reading_completes task Ended input (fault.NotAStep place) never fails read = absurd (never fails)
 reading_completes task Ended input fault.TooManyPatterns never fails read = absurd (never fails)
-reading_completes task Ended input fault.NoFinding never fails read = absurd fails
+reading_completes task Ended input fault.NoFinding never fails read = absurd (never fails)
 reading_completes task Ended input fault.Read never fails read = absurd (read refl)
 reading_completes task Ended input fault.Write never fails read = absurd fails
 reading_completes task Ended input fault.OutOfMemory never fails read = memory_answers task
@@ -226,6 +229,7 @@ refusal_answers (Predict size) R f status line t a = only_memory R f status line
 refusal_answers Record R f status line t a = only_memory R f status line t a
 refusal_answers (Witness size number) R f status line t a = only_memory R f status line t a
 refusal_answers (Replay size) R f status line t a = only_memory R f status line t a
+refusal_answers (Bench size seed events) R f status line t a = only_memory R f status line t a
 refusal_answers (Run size) R f status line t (inl whole) = absurd whole
 refusal_answers (Run size) R f status line t (inr (inl memory)) = inr (inl (memory_told R f status line t memory))
 refusal_answers (Run size) R f status line t (inr (inr cut)) = elim (told_status R f status line t fault.TooManyPatterns cut) [
@@ -240,18 +244,7 @@ whole_answers Record status whole = inl whole
 whole_answers (Witness size number) status whole = inl whole
 whole_answers (Replay size) status whole = inl whole
 whole_answers (Run size) status whole = inl whole
-
--- a fault while a trace was read is one of each task that reads a trace alone
-pub trace_fails : (task : Task) (Ended : Type 0) (f : Fault) (input : List ℕ) → ((g : LineFault) (holder : List ℕ) → IsKnownFault Ended input (refusal_with g holder) → IsRefusedIn task Ended (fault.Text g holder) input) → (HasNoFault input → HasNoFaultIn task input)
-    → FailsToReadTrace Ended f input → FailsToRead task Ended f input
-trace_fails task Ended (fault.Text f holder) input text none fails = text f holder fails
-trace_fails task Ended (fault.Script f) input text none fails = absurd fails
-trace_fails task Ended (fault.NotAStep place) input text none fails = absurd fails
-trace_fails task Ended fault.TooManyPatterns input text none fails = absurd fails
-trace_fails task Ended fault.NoFinding input text none fails = absurd fails
-trace_fails task Ended fault.Read input text none fails = none fails
-trace_fails task Ended fault.Write input text none fails = absurd fails
-trace_fails task Ended fault.OutOfMemory input text none fails = fails
+whole_answers (Bench size seed events) status whole = inl whole
 
 -- a trace text that has the finding is not refused
 pub witness_not_refused : (f : Fault) (size number : ℕ) (new : Option (List ℕ)) (all input : List ℕ) → Consumes (Some all) new input → IsAccepted (Witness size number) all → IsRefusedIn (Witness size number) (IsAtEnd new) f input → ⊥

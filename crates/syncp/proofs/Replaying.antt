@@ -12,7 +12,7 @@ use Rattle.trace_laws.specs.declared.finding.Finding.TheVariants.{Race, Deadlock
 use Rattle.script_machine.specs.Machine.{Script}
 use Rattle.replayer.specs.Replayed.{Replayed, IsFindingOf, IsRaceReplay, IsDeadlockReplay}
 use Rattle.report.specs.ReachedLines.{reached_line, closing_reached}
-use Rattle.syncp.specs.Predictions.{ArePredictions, ArePredicted, count_of_findings}
+use Rattle.predictor.specs.Predictions.{ArePredictions, ArePredicted, count_of_findings}
 use Rattle.syncp.specs.Replayed.{AddsReplay, WritesReplays, reached_lines}
 use Rattle.syncp.proofs.Witnessing.{pattern_of}
 

@@ -1,9 +1,8 @@
 -- The report of what is predicted.
-use Rattle.std.proofs.Common.{◌≡◌, ℕ, List, [], ◌∷◌, get_or, Ok, ap, refl, subst}
+use Rattle.std.proofs.Common.{◌≡◌, ℕ, List, [], ◌∷◌, get_or, ap, subst}
 use Rattle.std.specs.Prelude.{nat_lt}
 use Rattle.std.proofs.lemmas.List.Elements.{Contains-get_or}
 use Rattle.std.proofs.lemmas.Option.{slice_get-get_or}
-use Rattle.sp_base.specs.Moves.{IsFront}
 use Rattle.trace_laws.specs.Names.{NameLists}
 use Rattle.trace_laws.specs.Traces.{History}
 use Rattle.trace_laws.specs.Patterns.{Class, IsPattern, IsInstance}
@@ -12,11 +11,9 @@ use Rattle.trace_laws.proofs.Enabling.{conflict_within}
 use Rattle.trace_laws.proofs.Judges.{instance_within}
 use Rattle.trace_laws.proofs.Places.{contains_head, contains_tail}
 use Rattle.report.specs.Reports.{AreWithin, IsDeadlockWithin, IsRaceWithin, report_text}
-use Rattle.syncp.specs.Predictions.{ArePredictions, ArePredicted, count_of_findings}
-use Rattle.syncp.specs.Modes.{IsFrontOf}
-use Rattle.syncp.specs.Outcome.{IsReadFrom}
+use Rattle.predictor.specs.Predictions.{ArePredictions, ArePredicted, count_of_findings}
+use Rattle.syncp.specs.Outcome.{IsPredictedFrom}
 use Rattle.syncp.specs.Output.{IsOutput, IsReport}
-use Rattle.syncp.specs.Tasks.{Predict}
 use Rattle.syncp.proofs.Witnessing.{pattern_of}
 
 -- the places of a race are places of the trace
@@ -38,16 +35,7 @@ predicted_within h found are = record {
       deadlock_within h p (get_or found.deadlocks k d) ((are.1.members p).0 inside).0 is.deadlock.picked;
 }
 
--- its text is the report
-pub reported : (h : History) (size : ℕ) (found : Found) (text : List ℕ) (count : ℕ) → ArePredictions h size found → count ≡ count_of_findings found → text ≡ report_text h.events found → IsReport h size text (nat_lt 0 count)
+-- its text is the output for the input that says the trace
+pub output : (size : ℕ) (input : List ℕ) (r : (History × NameLists) × Found) (text : List ℕ) (count : ℕ) → IsPredictedFrom size input r → text ≡ report_text r.0.0.events r.1 → count ≡ count_of_findings r.1 → IsOutput size input text (nat_lt 0 count)
 unfolding IsReport
-reported h size found text count are counted written = (found, are, written, ap (nat_lt 0) counted)
-
-module _ (trace : History) (names : NameLists) (input : List ℕ) (read : IsReadFrom ⊥ (Ok (trace, names)) input) (size : ℕ) (found : Found) (count : ℕ) (are : ArePredictions trace size found) (counted : count ≡ count_of_findings found) where
-  -- the report of a trace that was read is the output for the input
-  pub output : (text : List ℕ) → text ≡ report_text trace.events found → IsOutput size input text (nat_lt 0 count)
-  output text written = (read.0, read.1, subst (λ (h : History). IsReport h size text (nat_lt 0 count)) read.2 (reported trace size found text count are counted written))
-
-  -- and a front of it is a front of that
-  pub front_output : (text : List ℕ) → IsFront text (report_text trace.events found) → IsFrontOf (Predict size) input text
-  front_output text front = (report_text trace.events found, (nat_lt 0 count, output (report_text trace.events found) refl), front)
+output size input r text count is written counted = (is.0, is.1, subst (λ (h : History). IsReport h size text (nat_lt 0 count)) is.2 (r.1, is.4, written, ap (nat_lt 0) counted))

@@ -6,7 +6,7 @@ use Rattle.trace_laws.specs.Findings.{Found}
 use Rattle.script_machine.specs.Held.{meaning}
 use Rattle.script_machine.specs.Machine.{Script, IsComplete}
 use Rattle.script_machine.specs.Recorded.{Recorded, IsRecording}
-use Rattle.syncp.specs.Predictions.{ArePredictions, count_of_findings}
+use Rattle.predictor.specs.Predictions.{ArePredictions, count_of_findings}
 use Rattle.syncp.specs.Replayed.{WritesReplays}
 use Rattle.std_text.specs.Writing.{trace_text}
 use Rattle.pattern_walk.specs.Listed.{HasMorePatterns}

@@ -21,9 +21,9 @@ use Rattle.trace_laws.specs.Names.{NameLists}
 use Rattle.replayer.specs.Reorders.{FollowsKeep}
 use Rattle.replayer.specs.Replays.{along}
 use Rattle.std_text.specs.Writing.{trace_text}
-use Rattle.syncp.specs.Predictions.{ArePredictions, ArePredicted, count_of_findings}
+use Rattle.predictor.specs.Predictions.{ArePredictions, ArePredicted, count_of_findings}
 use Rattle.syncp.specs.Witnesses.{Target, WritesFinding, IsNumbered, target_of, race_target, deadlock_target}
-use Rattle.syncp.proofs.Ranked.{not_both, same_length}
+use Rattle.predictor.proofs.Ranked.{not_both, same_length}
 
 -- the later places of races
 abbrev laters : List FoundRace → List ℕ

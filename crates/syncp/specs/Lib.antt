@@ -2,7 +2,6 @@ pub mod Faults
 pub mod Output
 pub mod Outcome
 pub mod Run
-pub mod Predictions
 pub mod Recorded
 pub mod Modes
 pub mod Statuses
@@ -14,4 +13,4 @@ pub mod Inputs
 pub mod Replayed
 pub mod Replaying
 pub mod Runs
-pub mod Searches
+pub mod Drawing

@@ -18,10 +18,11 @@ use Rattle.syncp.specs.Output.{history_of, IsStd, IsKnownFault, HasNoFault, IsOu
 use Rattle.syncp.specs.Recorded.{IsTooLong, IsRecordOf, IsScriptOf}
 use Rattle.syncp.specs.Inputs.{scripts_in}
 use Rattle.pattern_walk.specs.Listed.{HasMorePatterns}
-use Rattle.syncp.specs.Predictions.{HasFewPatterns}
+use Rattle.predictor.specs.Predictions.{HasFewPatterns}
 use Rattle.syncp.specs.Replayed.{IsReplay, SaysRun, SaysNoTrace, SaysNoRun, SaysManyPatterns}
 use Rattle.syncp.specs.Runs.{IsRunOf, IsCutRunOf}
-use Rattle.syncp.specs.Tasks.{Task, Predict, Record, Witness, Replay, Run}
+use Rattle.syncp.specs.Drawing.{IsBench, HasFewDrawn, HasManyDrawn}
+use Rattle.syncp.specs.Tasks.{Task, Predict, Record, Witness, Replay, Run, Bench}
 use Rattle.syncp.specs.Witnesses.{IsWitness, HasFinding, LacksFinding}
 
 -- the mode of a word
@@ -32,16 +33,19 @@ mode_named word =
     else if pointwise nat_eq word (codes "witness") then Some mode.Witness
     else if pointwise nat_eq word (codes "replay") then Some mode.Replay
     else if pointwise nat_eq word (codes "run") then Some mode.Run
+    else if pointwise nat_eq word (codes "bench") then Some mode.Bench
     else None
 
 -- the input is in the grammar of the task: it is a trace text, which has the finding that is asked for, a script of no
--- more bytes than an input may have, or such a script with a run of it; the trace has not too many patterns
+-- more bytes than an input may have, or such a script with a run of it; the trace, or the one that is drawn, has not too
+-- many patterns
 abbrev pub IsAccepted : Task → List ℕ → Type 0
 IsAccepted (Predict size) input = (p : Progress) × IsStd input p × HasFewPatterns p.reading.events size
 IsAccepted Record input = (program : Program) × IsScriptOf input program
 IsAccepted (Witness size number) input = (p : Progress) × IsStd input p × HasFewPatterns p.reading.events size × HasFinding (history_of p) size number
 IsAccepted (Replay size) input = (r : SaysRun input) × HasFewPatterns r.run size
 IsAccepted (Run size) input = (program : Program) × IsScriptOf input program
+IsAccepted (Bench size seed events) input = HasFewDrawn size seed events
 
 -- the output for an input, and whether it has a finding
 abbrev pub IsOutputOf : Task → List ℕ → List ℕ → Bool → Type 0
@@ -50,6 +54,7 @@ IsOutputOf Record input text found = IsRecordOf input text × (found ≡ false)
 IsOutputOf (Witness size number) input text found = IsWitness size number input text × (found ≡ true)
 IsOutputOf (Replay size) input text found = IsReplay size input text found
 IsOutputOf (Run size) input text found = IsRunOf size input text found
+IsOutputOf (Bench size seed events) input text found = IsBench size seed events text × (found ≡ false)
 
 -- what may be written for an input: its output, or the front of it that a run with too many patterns leaves
 abbrev pub MayWrite : Task → List ℕ → List ℕ → Type 0
@@ -60,13 +65,15 @@ MayWrite task input text = (found : Bool) × IsOutputOf task input text found
 abbrev pub IsFrontOf : Task → List ℕ → List ℕ → Type 0
 IsFrontOf task input text = (whole : List ℕ) × MayWrite task input whole × IsFront text whole
 
--- no fault is known within the bytes so far, where the text of a script is looked at once all of it is there
+-- No fault is known within the bytes so far, where the text of a script is looked at once all of it is there. A trace that
+-- is drawn is not read from a source.
 abbrev pub HasNoFaultIn : Task → List ℕ → Type 0
 HasNoFaultIn (Predict size) input = HasNoFault input
 HasNoFaultIn Record input = length input ≤ MAX_INPUT
 HasNoFaultIn (Witness size number) input = HasNoFault input
 HasNoFaultIn (Replay size) input = length input ≤ MAX_INPUT
 HasNoFaultIn (Run size) input = length input ≤ MAX_INPUT
+HasNoFaultIn (Bench size seed events) input = ⊥
 
 -- the whole input says a trace that has fewer findings
 abbrev pub IsPastFindings : Type 0 → List ℕ → ℕ → ℕ → Type 0
@@ -95,6 +102,7 @@ IsRefusedIn (Replay size) Ended (NotAStep place) input = SaysNoRun input place �
 IsRefusedIn (Replay size) Ended TooManyPatterns input = SaysManyPatterns size input × Ended
 IsRefusedIn (Run size) Ended (Text f holder) input = IsTooLong input f × (holder ≡ [])
 IsRefusedIn (Run size) Ended (Script f) input = (length input ≤ MAX_INPUT) × FirstFault input f × Ended
+IsRefusedIn (Bench size seed events) Ended TooManyPatterns input = HasManyDrawn size seed events
 IsRefusedIn task Ended f input = ⊥
 
 -- there are too many patterns, and nothing is written; but of a run that was recorded its trace and the mark

@@ -1,8 +1,11 @@
 -- What an outcome says of what was read and written. Ended says that the source is at its end.
-use Rattle.std.specs.Prelude.{◌≡◌, ◌≤◌, ◌⊎◌, ℕ, List, [], length, Result, Ok, Err}
+use Rattle.std.specs.Prelude.{◌≡◌, ◌≤◌, ◌⊎◌, ℕ, Bool, List, [], length, Result, Ok, Err}
+use Rattle.sp_base.specs.Moves.{IsFront}
 use Rattle.sp_base.specs.declared.limits.TheConstants.{MAX_INPUT}
 use Rattle.trace_laws.specs.Traces.{History}
 use Rattle.trace_laws.specs.Names.{NameLists}
+use Rattle.trace_laws.specs.Findings.{Found}
+use Rattle.predictor.specs.Predictions.{ArePredictions}
 use Rattle.std_text.specs.Framing.{Progress}
 use Rattle.std_text.specs.Refusal.{Refusal}
 use Rattle.std_text.specs.Told.{Told}
@@ -16,13 +19,13 @@ use Rattle.syncp.specs.Output.{history_of, IsStd, IsKnownFault, HasNoFault}
 use Rattle.syncp.specs.Recorded.{IsTooLong}
 use Rattle.syncp.specs.Tasks.{Task, Run}
 
--- a fault while the input was read
+-- a fault before anything was written
 abbrev pub FailsToRead : Task → Type 0 → Fault → List ℕ → Type 0
 FailsToRead task Ended (Text f holder) input = IsRefusedIn task Ended (Text f holder) input
 FailsToRead task Ended (Script f) input = IsRefusedIn task Ended (Script f) input
 FailsToRead task Ended (NotAStep place) input = IsRefusedIn task Ended (NotAStep place) input
 FailsToRead task Ended TooManyPatterns input = IsRefusedIn task Ended TooManyPatterns input
-FailsToRead task Ended NoFinding input = ⊥
+FailsToRead task Ended NoFinding input = IsRefusedIn task Ended NoFinding input
 FailsToRead task Ended Read input = HasNoFaultIn task input
 FailsToRead task Ended Write input = ⊥
 FailsToRead task Ended OutOfMemory input = Unit {0}
@@ -55,6 +58,21 @@ Ends read (Err fault) = TellsRefusal read fault
 abbrev pub IsReadFrom : Type 0 → Result (History × NameLists) Fault → List ℕ → Type 0
 IsReadFrom Ended (Ok read) input = (p : Progress) × IsStd input p × (read.0 ≡ history_of p) × (read.1 ≡ p.reading.names)
 IsReadFrom Ended (Err fault) input = FailsToReadTrace Ended fault input
+
+-- a trace that the whole input says with its names, and what is predicted from it
+abbrev pub IsPredictedFrom : ℕ → List ℕ → (History × NameLists) × Found → Type 0
+IsPredictedFrom size input r = (p : Progress) × IsStd input p × (r.0.0 ≡ history_of p) × (r.0.1 ≡ p.reading.names) × ArePredictions r.0.0 size r.1
+
+-- the output for an input with whether it has a finding, or the fault because of which nothing is written
+abbrev pub Makes : Task → Type 0 → Result (List ℕ × Bool) Fault → List ℕ → Type 0
+Makes task Ended (Ok answer) input = IsOutputOf task input answer.0 answer.1
+Makes task Ended (Err fault) input = FailsToRead task Ended fault input
+
+-- What was written of an output, and how the call ended: all was written, or a front of it and then came a fault. Without an
+-- output nothing was written.
+abbrev pub EndsAnswer : Result (List ℕ × Bool) Fault → Outcome → List ℕ → Type 0
+EndsAnswer (Ok answer) outcome text = ((outcome ≡ Done answer.1) × (text ≡ answer.0)) ⊎ (((outcome ≡ Refused Write) ⊎ (outcome ≡ Refused OutOfMemory)) × IsFront text answer.0)
+EndsAnswer (Err fault) outcome text = (outcome ≡ Refused fault) × (text ≡ [])
 
 -- what was read and written explains the outcome of a task
 abbrev pub Explains : Task → Type 0 → Outcome → List ℕ → List ℕ → Type 0

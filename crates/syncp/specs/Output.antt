@@ -6,7 +6,7 @@ use Rattle.trace_laws.specs.Traces.{History}
 use Rattle.std_text.specs.Refusal.{Refusal, ◌>>=◌}
 use Rattle.std_text.specs.Framing.{Progress, start, after, closed}
 use Rattle.report.specs.Reports.{report_text}
-use Rattle.syncp.specs.Predictions.{ArePredictions, count_of_findings}
+use Rattle.predictor.specs.Predictions.{ArePredictions, count_of_findings}
 
 -- no byte more than the limit and one was taken
 abbrev pub IsWithinLimit : List ℕ → Type 0

@@ -18,7 +18,7 @@ use Rattle.replayer.specs.Replayed.{Replayed, IsRaceReplay, IsDeadlockReplay, Is
 use Rattle.report.specs.ReachedLines.{reached_line, closing_reached}
 use Rattle.syncp.specs.Inputs.{scripts_in, trace_in, trace_line}
 use Rattle.syncp.specs.Output.{whole_reading}
-use Rattle.syncp.specs.Predictions.{ArePredictions, count_of_findings}
+use Rattle.predictor.specs.Predictions.{ArePredictions, count_of_findings}
 
 -- what the trace of an input says behind its script, whose names have their numbers already
 abbrev pub reading_behind : Script → List ℕ → Result Progress Refusal

@@ -17,7 +17,7 @@ use Rattle.syncp.specs.declared.outcome.Fault.TheVariants as fault
 use Rattle.syncp.specs.Faults.{refusal_with, TellsRefusal}
 use Rattle.syncp.specs.Inputs.{scripts_in}
 use Rattle.syncp.specs.Output.{history_of}
-use Rattle.syncp.specs.Predictions.{ArePredictions, count_of_findings}
+use Rattle.predictor.specs.Predictions.{ArePredictions, count_of_findings}
 use Rattle.syncp.specs.Replayed.{SaysNoTrace, SaysNoRun, SaysManyPatterns, WritesReplays}
 
 -- a fault of a script, or want of memory

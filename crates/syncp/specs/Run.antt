@@ -1,4 +1,4 @@
--- What a run leaves. Ended says that the source is at its end, and ErrFailed that the count of faults of `err` rose.
+-- What a run leaves. Ended says that the source is at its end where it is read, and ErrFailed that the count of faults of `err` rose.
 use Rattle.std.specs.Prelude.{◌≡◌, ◌⊎◌, ℕ, true, false, List, []}
 use Rattle.std.specs.declared.option.Option.{Option}
 use Rattle.std.specs.declared.option.Option.TheVariants.{None, Some}
@@ -11,7 +11,7 @@ use Rattle.syncp.specs.declared.outcome.Status.TheVariants.{Clean, Found, Usage,
 use Rattle.syncp.specs.Faults.{fault_line}
 use Rattle.syncp.specs.Modes.{IsOutputOf, IsFrontOf, HasNoFaultIn, IsRefusalOf}
 use Rattle.syncp.specs.Statuses.{status_of}
-use Rattle.syncp.specs.Tasks.{Task, Run, task_of}
+use Rattle.syncp.specs.Tasks.{Task, Run, HasRead, task_of}
 
 -- a line of `err` was written whole, or in part where its count of faults rose
 abbrev pub TellsLine : Type 0 → Fault → List ℕ → Type 0
@@ -39,7 +39,7 @@ Means task Ended ErrFailed NoMemory input text line = ((text ≡ []) ⊎ (IsFron
 -- the same by the reading of the words; where they have none nothing is read or written to `out`, and `err` may have gained a text for the user
 abbrev pub Leaves : Option Words → Type 0 → Type 0 → Status → List ℕ → List ℕ → List ℕ → Type 0
 Leaves None Ended ErrFailed status input text line = ((status ≡ Usage) ⊎ (status ≡ NoMemory)) × (input ≡ []) × (text ≡ [])
-Leaves (Some words) Ended ErrFailed status input text line = Means (task_of words) Ended ErrFailed status input text line
+Leaves (Some words) Ended ErrFailed status input text line = Means (task_of words) (HasRead (task_of words) Ended) ErrFailed status input text line
 
 -- the whole output was written
 abbrev pub IsDone : Status → Type 0

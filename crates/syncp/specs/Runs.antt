@@ -13,7 +13,7 @@ use Rattle.syncp.specs.declared.outcome.Outcome.{Outcome}
 use Rattle.syncp.specs.declared.outcome.Outcome.TheVariants.{Done, Refused}
 use Rattle.syncp.specs.declared.run_text.RunText.{RunText}
 use Rattle.syncp.specs.declared.run_text.RunText.TheVariants.{Whole, Cut}
-use Rattle.syncp.specs.Predictions.{ArePredictions, count_of_findings}
+use Rattle.predictor.specs.Predictions.{ArePredictions, count_of_findings}
 use Rattle.syncp.specs.Recorded.{IsCompleteRun, IsScriptOf}
 use Rattle.syncp.specs.Replayed.{WritesReplays, run_of}
 

@@ -11,7 +11,7 @@ use Rattle.replayer.specs.Replays.{along}
 use Rattle.std_text.specs.Framing.{Progress}
 use Rattle.std_text.specs.Writing.{trace_text}
 use Rattle.syncp.specs.Output.{history_of, IsStd}
-use Rattle.syncp.specs.Predictions.{ArePredictions, count_of_findings}
+use Rattle.predictor.specs.Predictions.{ArePredictions, count_of_findings}
 
 -- a finding as the places that it leaves enabled, and its keep
 pub record Target : Type 0 where

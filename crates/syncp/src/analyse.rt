@@ -1,26 +1,50 @@
 // The mode `predict`.
-ghost use Rattle.std.specs.Prelude.{◌≡◌, ◌≤◌, ℕ, List, Some};
+ghost use Rattle.std.specs.Prelude.{◌≡◌, ◌≤◌, ℕ, List, Some, OnOk, IsErrOf};
 ghost use Rattle.std.specs.Io.KnownBytes.{IsAtEnd};
 ghost use Rattle.sp_base.specs.Causes.{Rose};
 ghost use Rattle.sp_base.specs.Moves.{Took, Gained};
 ghost use Rattle.syncp.specs.Modes.{IsAccepted};
-ghost use Rattle.syncp.specs.Outcome.{Explains, IsAnswered, IsDone};
+ghost use Rattle.syncp.specs.Outcome.{Explains, IsAnswered, IsDone, Makes};
 ghost use Rattle.syncp.specs.Output.{IsWithinLimit};
 ghost use Rattle.syncp.specs.Tasks.{Predict};
 
-use crate::find::{FindFault, find};
+use crate::answer::write_answer;
 use crate::outcome::{Fault, Outcome};
-use crate::reading::read_trace;
-use report::write_report;
-use sp_base::{Gate, MAX_SIZE, MAX_WORKERS, MIN_SIZE, Sink, Source, WriteFault};
+use crate::predicted::read_predicted;
+use crate::report_of::report_of;
+use sp_base::{Gate, MAX_SIZE, MAX_WORKERS, MIN_SIZE, Sink, Source, SureSink};
 use std::alloc::Global;
 use std::thread::Threads;
 
-/// Reads a trace and writes its report, with deadlock patterns of at most that size. The workers and the gate have no part
-/// in the answer yet. A refusal of the text comes before anything is written, as does `TooManyPatterns`, which comes exactly
+// Reads a trace, and answers its report and whether it has a finding.
+fn report_of_source<R: Threads + Sync, S: Source, G: Gate + Sync>(
+    rt: &R,
+    alloc: Global,
+    size: u8,
+    workers: u8,
+    source: &mut S,
+    gate: &G,
+) -> Result<(SureSink, bool), Fault>
+    requires least_size { MIN_SIZE ≤ size }
+    requires greatest_size { size ≤ MAX_SIZE }
+    requires least_workers { 1 ≤ workers }
+    requires greatest_workers { workers ≤ MAX_WORKERS }
+    ensures read { Took (S.left source.old) (S.left source.new) (λ input. IsWithinLimit input × Makes (Predict size) (IsAtEnd (S.left source.new)) result input) }
+    ensures ended { OnOk result (IsAtEnd (S.left source.new)) }
+    ensures cause { IsErrOf result Fault.Read → Rose (S.faults source.old) (S.faults source.new) }
+{
+    let ((trace, _names), findings) = read_predicted(rt, alloc, size, workers, source, gate)?;
+    match report_of(alloc, &trace, &findings) {
+        Ok(report) => Ok((report, findings.len() > 0)),
+        Err(_) => Err(Fault::OutOfMemory),
+    }
+}
+
+/// Reads a trace and writes its report, with deadlock patterns of at most that size. The workers and the gate have no part in
+/// the answer. A refusal of the text comes before anything is written, as does `TooManyPatterns`, which comes exactly
 /// where the whole input is a trace that has too many patterns. `Read` and `Write` come only where the count of faults of
 /// the source or of the sink rose; after `Write`, and after want of memory, a front of the report is written.
-pub fn analyse<R: Threads + Sync, S: Source, K: Sink, G: Gate>(
+pub fn analyse<R: Threads + Sync, S: Source, K: Sink, G: Gate + Sync>(
     rt: &R,
     alloc: Global,
     size: u8,
@@ -48,19 +72,6 @@ pub fn analyse<R: Threads + Sync, S: Source, K: Sink, G: Gate>(
         ¬ Rose (S.faults source.old) (S.faults source.new) → ¬ Rose (K.faults out.old) (K.faults out.new) →
         IsAnswered (Predict size) result }
 {
-    let (trace, _names) = match read_trace(alloc, source) {
-        Ok(read) => read,
-        Err(fault) => return Outcome::Refused(fault),
-    };
-    let findings = match find(rt, alloc, &trace, size, workers, gate) {
-        Ok(findings) => findings,
-        Err(FindFault::TooManyPatterns) => return Outcome::Refused(Fault::TooManyPatterns),
-        Err(FindFault::OutOfMemory) => return Outcome::Refused(Fault::OutOfMemory),
-    };
-    let found = findings.len() > 0;
-    match write_report(alloc, out, &trace, &findings) {
-        Ok(()) => Outcome::Done { found },
-        Err(WriteFault::Failed) => Outcome::Refused(Fault::Write),
-        Err(WriteFault::OutOfMemory) => Outcome::Refused(Fault::OutOfMemory),
-    }
+    let report = report_of_source(rt, alloc, size, workers, source, gate);
+    write_answer(out, report)
 }

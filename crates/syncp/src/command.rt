@@ -21,7 +21,7 @@ pub const MAX_DRAWN_EVENTS: u32 = 65_536;
 pub const MAX_FINDING: u32 = 69_632;
 
 /// The names of the modes, as texts for the user list them.
-pub const MODE_NAMES: &str = "[possible values: predict, record, witness, replay, run]";
+pub const MODE_NAMES: &str = "[possible values: predict, record, witness, replay, run, bench]";
 
 // An option that takes a number from `least` to `most`.
 fn number_option<'a>(

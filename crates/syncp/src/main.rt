@@ -3,17 +3,21 @@
 #![tactic(auto)]
 
 mod analyse;
+mod answer;
 mod behind;
+mod bench;
+#[cfg(test)]
+mod bench_tests;
 mod command;
 #[cfg(test)]
 mod deadlock_tests;
-mod deadlocks;
 mod fault_line;
-mod find;
+#[cfg(test)]
+mod meeting;
 mod mode;
 mod outcome;
 mod parts;
-mod races;
+mod predicted;
 mod reach;
 mod reading;
 mod record_mode;
@@ -23,6 +27,7 @@ mod record_tests;
 mod replay_tests;
 mod replay_text;
 mod replays;
+mod report_of;
 mod run;
 mod run_mode;
 #[cfg(test)]

@@ -15,6 +15,8 @@ pub enum Mode {
     Replay,
     /// It runs scripts on threads and writes the recorded trace, what is found in it, and how the threads ended.
     Run,
+    /// It draws a trace from a seed, and writes how much is found in it.
+    Bench,
 }
 
 /// The mode of a word.
@@ -27,6 +29,7 @@ pub fn named(word: &str) -> Option<Mode>
         "witness" => Some(Mode::Witness),
         "replay" => Some(Mode::Replay),
         "run" => Some(Mode::Run),
+        "bench" => Some(Mode::Bench),
         _ => None,
     }
 }

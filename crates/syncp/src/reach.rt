@@ -1,26 +1,24 @@
 // The mode `replay`.
-ghost use Rattle.std.specs.Prelude.{◌≡◌, ◌≤◌, ℕ, List, Some, length, OnOk, MatchResult, IsErrOf};
+ghost use Rattle.std.specs.Prelude.{◌≡◌, ◌≤◌, ℕ, List, Some, length, OnOk, IsErrOf};
 ghost use Rattle.std.specs.Io.KnownBytes.{IsAtEnd};
 ghost use Rattle.sp_base.specs.Causes.{Rose};
 ghost use Rattle.sp_base.specs.Moves.{Took, Gained};
 ghost use Rattle.syncp.specs.Modes.{IsAccepted};
-ghost use Rattle.syncp.specs.Outcome.{Explains, FailsToRead, IsAnswered, IsDone};
+ghost use Rattle.syncp.specs.Outcome.{Explains, IsAnswered, IsDone, Makes};
 ghost use Rattle.syncp.specs.Output.{IsWithinLimit};
-ghost use Rattle.syncp.specs.Replayed.{IsReplay};
 ghost use Rattle.syncp.specs.Tasks.{Replay};
 
+use crate::answer::write_answer;
 use crate::outcome::{Fault, Outcome};
 use crate::replays::replays_of;
 use crate::whole_text::whole_text;
 use script_machine::laws::{exclusive_law, of_law};
-use sp_base::{
-    Gate, MAX_SIZE, MAX_WORKERS, MIN_SIZE, Sink, Source, SureSink, WriteFault, write_all,
-};
+use sp_base::{Gate, MAX_SIZE, MAX_WORKERS, MIN_SIZE, Sink, Source, SureSink};
 use std::alloc::Global;
 use std::thread::Threads;
 
 // Reads the source to its end, and answers the text of the replays and whether there is any.
-fn replay_source<R: Threads + Sync, S: Source, G: Gate>(
+fn replay_source<R: Threads + Sync, S: Source, G: Gate + Sync>(
     rt: &R,
     alloc: Global,
     size: u8,
@@ -32,8 +30,7 @@ fn replay_source<R: Threads + Sync, S: Source, G: Gate>(
     requires greatest_size { size ≤ MAX_SIZE }
     requires least_workers { 1 ≤ workers }
     requires greatest_workers { workers ≤ MAX_WORKERS }
-    ensures read { Took (S.left source.old) (S.left source.new) (λ input. IsWithinLimit input ×
-        MatchResult result (λ r. IsReplay size input r.0 r.1) (λ fault. FailsToRead (Replay size) (IsAtEnd (S.left source.new)) fault input)) }
+    ensures read { Took (S.left source.old) (S.left source.new) (λ input. IsWithinLimit input × Makes (Replay size) (IsAtEnd (S.left source.new)) result input) }
     ensures ended { OnOk result (IsAtEnd (S.left source.new)) }
     ensures cause { IsErrOf result Fault.Read → Rose (S.faults source.old) (S.faults source.new) }
 {
@@ -50,7 +47,7 @@ fn replay_source<R: Threads + Sync, S: Source, G: Gate>(
 /// first place that is no step, and then `TooManyPatterns`, which comes exactly where such a run has too many patterns of at
 /// most that size. `Read` and `Write` come only where the count of faults of the source or of the sink rose;
 /// after `Write`, and after want of memory, a front of the replays is written.
-pub fn reach<R: Threads + Sync, S: Source, K: Sink, G: Gate>(
+pub fn reach<R: Threads + Sync, S: Source, K: Sink, G: Gate + Sync>(
     rt: &R,
     alloc: Global,
     size: u8,
@@ -80,13 +77,6 @@ pub fn reach<R: Threads + Sync, S: Source, K: Sink, G: Gate>(
 {
     exclusive_law();
     of_law();
-    let (replays, found) = match replay_source(rt, alloc, size, workers, source, gate) {
-        Ok(replays) => replays,
-        Err(fault) => return Outcome::Refused(fault),
-    };
-    match write_all(out, replays.text()) {
-        Ok(()) => Outcome::Done { found },
-        Err(WriteFault::Failed) => Outcome::Refused(Fault::Write),
-        Err(WriteFault::OutOfMemory) => Outcome::Refused(Fault::OutOfMemory),
-    }
+    let replays = replay_source(rt, alloc, size, workers, source, gate);
+    write_answer(out, replays)
 }

@@ -2,7 +2,7 @@
 ghost use Rattle.std.specs.Prelude.{◌≡◌, ◌++◌, IfOk, OnOk};
 ghost use Rattle.replayer.specs.Replayed.{IsFindingOf, IsReplayOf};
 ghost use Rattle.report.specs.ReachedLines.{reached_line};
-ghost use Rattle.syncp.specs.Predictions.{ArePredicted};
+ghost use Rattle.predictor.specs.Predictions.{ArePredicted};
 ghost use Rattle.syncp.specs.Replayed.{AddsReplay, WritesReplays};
 
 use replayer::replay;

@@ -5,12 +5,12 @@ ghost use Rattle.syncp.specs.Replaying.{FailsToReplay, Records, ReplaysRun};
 ghost use Rattle.syncp.specs.Replayed.{IsReplay};
 
 use crate::behind::trace_behind;
-use crate::find::{FindFault, find};
 use crate::outcome::Fault;
 use crate::parts::input_parts;
 use crate::replay_text::replay_text;
 use crate::script_text::script_of;
 use crate::whole_text::count_newlines;
+use predictor::{FindFault, find};
 use script_machine::{Recording, RunFault, Script};
 use sp_base::{Gate, MAX_SIZE, MAX_WORKERS, MIN_SIZE, SureSink};
 use std::alloc::Global;
@@ -34,7 +34,7 @@ fn recording_of<'a>(
 }
 
 // The replays of what is found in a recording with patterns of at most that size, and whether anything is.
-fn replays_in<R: Threads + Sync, G: Gate>(
+fn replays_in<R: Threads + Sync, G: Gate + Sync>(
     rt: &R,
     alloc: Global,
     size: u8,
@@ -65,7 +65,7 @@ fn replays_in<R: Threads + Sync, G: Gate>(
 ///
 /// A refusal is that of the scripts, of the trace, the first place that is no step of the scripts, or `TooManyPatterns`,
 /// in this order. The only other error is want of memory.
-pub fn replays_of<R: Threads + Sync, G: Gate>(
+pub fn replays_of<R: Threads + Sync, G: Gate + Sync>(
     rt: &R,
     alloc: Global,
     size: u8,

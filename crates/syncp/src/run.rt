@@ -8,11 +8,12 @@ ghost use Rattle.syncp.specs.Outcome.{Explains};
 ghost use Rattle.syncp.specs.Outcome as outcome;
 ghost use Rattle.syncp.specs.Output.{IsWithinLimit};
 ghost use Rattle.syncp.specs.Run.{Means, Leaves, TellsOf, IsAnswered};
-ghost use Rattle.syncp.specs.Tasks.{task_of};
+ghost use Rattle.syncp.specs.Tasks.{HasInput, HasRead, task_of};
 ghost use Rattle.syncp.specs.Words.{IsInRange, reading_of};
 ghost use Rattle.syncp.specs.declared.words.Words.{Words as Reading};
 
 use crate::analyse::analyse;
+use crate::bench::bench;
 use crate::fault_line::line_of;
 use crate::mode::Mode;
 use crate::outcome::{Fault, Outcome, Status};
@@ -27,11 +28,12 @@ use std::alloc::Global;
 use std::sync::Wait;
 use std::thread::Threads;
 
-/// Reads the source to its end and writes to `out` what the mode makes of it: `predict` reads a trace and writes the
+/// Does what a mode says with the source, which it reads to its end, and writes to `out` what it makes of it: `predict` reads a trace and writes the
 /// report, `witness` reads a trace and writes the events that lead to one of its findings, `record` runs scripts on threads
 /// and writes the trace that is recorded, `run` writes behind that trace the report of it, the replays of what is found and
-/// how the threads ended, and `replay` reads scripts and a run of them and writes which calls stand side by side at each
-/// finding. The line of a fault goes to `err`.
+/// how the threads ended, `replay` reads scripts and a run of them and writes which calls stand side by side at each
+/// finding, and `bench` reads nothing, draws a trace from a seed and writes how much is found in it. The line of a fault goes
+/// to `err`.
 ///
 /// The words are the program's name, the mode and options. Where they have no reading nothing is read or written to
 /// `out`, and `err` gains a text for the user, which is that of help where help was asked for. A refusal of the input
@@ -64,7 +66,7 @@ pub fn run<R: Threads + Wait + Sync, S: Source, K: Sink, E: Sink, G: Gate + Sync
     // answered, unless the outside fails or memory runs out. In the mode `run` it is the run that was recorded which may have
     // too many patterns.
     ensures complete { (reading : Reading) → reading_of (map string_bytes words.now) ≡ Some reading →
-        (all : List ℕ) → S.left source.old ≡ Some all → IsAccepted (task_of reading) all →
+        (all : List ℕ) → HasInput (task_of reading) (S.left source.old) all → IsAccepted (task_of reading) all →
         ¬ Rose (S.faults source.old) (S.faults source.new) → ¬ Rose (K.faults out.old) (K.faults out.new) →
         IsAnswered (task_of reading) result }
 {
@@ -100,11 +102,11 @@ fn run_in<R: Threads + Wait + Sync, S: Source, K: Sink, E: Sink, G: Gate + Sync>
     ensures outcome { Took (S.left source.old) (S.left source.new) (λ input. IsWithinLimit input ×
         Gained (K.text out.old) (K.text out.new) (λ text.
         Gained (E.text err.old) (E.text err.new) (λ line.
-        Means (task_of reading) (IsAtEnd (S.left source.new)) (Rose (E.faults err.old) (E.faults err.new)) result input text line))) }
+        Means (task_of reading) (HasRead (task_of reading) (IsAtEnd (S.left source.new))) (Rose (E.faults err.old) (E.faults err.new)) result input text line))) }
     ensures usage { result ≢ Status.Usage }
     ensures read { result ≡ Status.ReadFault → Rose (S.faults source.old) (S.faults source.new) }
     ensures write { result ≡ Status.WriteFault → Rose (K.faults out.old) (K.faults out.new) }
-    ensures complete { (all : List ℕ) → S.left source.old ≡ Some all → IsAccepted (task_of reading) all →
+    ensures complete { (all : List ℕ) → HasInput (task_of reading) (S.left source.old) all → IsAccepted (task_of reading) all →
         ¬ Rose (S.faults source.old) (S.faults source.new) → ¬ Rose (K.faults out.old) (K.faults out.new) →
         IsAnswered (task_of reading) result }
 {
@@ -125,17 +127,27 @@ fn outcome_of<R: Threads + Wait + Sync, S: Source, K: Sink, G: Gate + Sync>(
 ) -> Outcome
     requires { IsInRange reading }
     ensures outcome { Took (S.left source.old) (S.left source.new) (λ input. IsWithinLimit input ×
-        Gained (K.text out.old) (K.text out.new) (Explains (task_of reading) (IsAtEnd (S.left source.new)) result input)) }
-    ensures ended { outcome.IsDone result → IsAtEnd (S.left source.new) }
+        Gained (K.text out.old) (K.text out.new) (Explains (task_of reading) (HasRead (task_of reading) (IsAtEnd (S.left source.new))) result input)) }
+    ensures ended { outcome.IsDone result → HasRead (task_of reading) (IsAtEnd (S.left source.new)) }
     ensures read { result ≡ Outcome.Refused Fault.Read → Rose (S.faults source.old) (S.faults source.new) }
     ensures write { result ≡ Outcome.Refused Fault.Write → Rose (K.faults out.old) (K.faults out.new) }
-    ensures complete { (all : List ℕ) → S.left source.old ≡ Some all → IsAccepted (task_of reading) all →
+    ensures complete { (all : List ℕ) → HasInput (task_of reading) (S.left source.old) all → IsAccepted (task_of reading) all →
         ¬ Rose (S.faults source.old) (S.faults source.new) → ¬ Rose (K.faults out.old) (K.faults out.new) →
         outcome.IsAnswered (task_of reading) result }
 {
     match reading.mode {
         Mode::Predict => analyse(rt, alloc, reading.size, reading.workers, source, out, gate),
         Mode::Record => record_scripts(rt, alloc, source, out, gate),
+        Mode::Bench => bench(
+            rt,
+            alloc,
+            reading.size,
+            reading.workers,
+            reading.seed,
+            reading.events,
+            out,
+            gate,
+        ),
         Mode::Replay => reach(rt, alloc, reading.size, reading.workers, source, out, gate),
         Mode::Run => run_scripts(rt, alloc, reading.size, reading.workers, source, out, gate),
         Mode::Witness => show(

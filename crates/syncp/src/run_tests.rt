@@ -1,20 +1,17 @@
 // What the mode `run` leaves, and what the modes that run scripts leave where several runs are possible.
+use crate::meeting::Meeting;
 use crate::tests::{Left, Ran, leaves, leaves_failing, ran_by};
-use sp_base::{Gate, OpenGate, ThreadId};
+use sp_base::{Gate, OpenGate};
 use std::alloc::{AllocError, Global};
 use std::sync::Wait;
-use std::sync::atomic::{AtomicBool, Ordering};
 use std::test::Fail;
-use std::thread::{Threads, yield_now};
+use std::thread::Threads;
 
 // The lines behind a trace in which nothing is found, before the lines of the threads.
 const NOTHING_FOUND: &str = "%%\nraces 0 deadlocks 0\nreached 0\n";
 
 // Two threads that write, each to a variable of its own.
 const APART: &str = "thread T0\nwrite X 1\nthread T1\nwrite Y 1\n";
-
-// The most turns that a thread waits for another.
-const MOST_TURNS: u32 = 10_000_000;
 
 // Whether a run left one of these texts, and this status.
 fn is_one_of(ran: &Ran, outs: &[&str], code: u8) -> bool {
@@ -206,46 +203,11 @@ fn faults_of_the_outside_in_runs(rt: HostRuntime) -> Result<(), Fail> {
     Ok(())
 }
 
-// A gate at which two threads wait for each other before each call.
-#[derive(Drop)]
-struct Meeting {
-    first: AtomicBool,
-    second: AtomicBool,
-    missed: AtomicBool,
-}
-
-impl Gate for Meeting {
-    fn before(&self, thread: ThreadId, _call: u32) {
-        let (own, other) = if thread.value() == 0 {
-            (&self.first, &self.second)
-        } else {
-            (&self.second, &self.first)
-        };
-        own.store(true, Ordering::SeqCst);
-        for _ in 0..MOST_TURNS {
-            if other.load(Ordering::SeqCst) {
-                return;
-            }
-            yield_now();
-        }
-        self.missed.store(true, Ordering::SeqCst);
-    }
-
-    fn inside(&self, _thread: ThreadId, _call: u32) {}
-
-    fn job(&self, _number: u32) {}
-}
-
 #[test]
 fn threads_of_scripts_meet(rt: HostRuntime) -> Result<(), Fail> {
-    let gate = Meeting {
-        first: AtomicBool::new(false),
-        second: AtomicBool::new(false),
-        missed: AtomicBool::new(false),
-    };
+    let gate = Meeting::new();
     let outs = ["T0|w(X)|2\nT1|w(Y)|4\n", "T1|w(Y)|4\nT0|w(X)|2\n"];
     assert!(rt; leaves_one_of(&rt, rt.alloc(), "record", APART, &gate, &outs, 0)?);
-    assert!(rt; gate.first.load(Ordering::SeqCst) && gate.second.load(Ordering::SeqCst));
-    assert!(rt; !gate.missed.load(Ordering::SeqCst));
+    assert!(rt; gate.have_met());
     Ok(())
 }

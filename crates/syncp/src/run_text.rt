@@ -3,11 +3,11 @@ ghost use Rattle.std.specs.Prelude.{◌≡◌, ◌≤◌, ◌++◌, IfOk};
 ghost use Rattle.script_machine.specs.Held.{meaning};
 ghost use Rattle.script_machine.specs.Machine.{IsComplete};
 ghost use Rattle.std_text.specs.Writing.{trace_text};
-ghost use Rattle.syncp.specs.Predictions.{ArePredicted};
+ghost use Rattle.predictor.specs.Predictions.{ArePredicted};
 ghost use Rattle.syncp.specs.Runs.{IsRunText, mark_line, run_text};
 
-use crate::find::{FindFault, find};
 use crate::replay_text::replay_text;
+use predictor::{FindFault, find};
 use recorder::record;
 use report::{write_ends, write_report, write_trace};
 use script_machine::{Recording, Script};
@@ -60,7 +60,7 @@ fn gathered(
 
 // What is written of a run that was recorded.
 #[tactic(auto, using(crate::proofs::WholeRuns::run_written, crate::proofs::WholeRuns::run_cut))]
-fn text_of_recording<R: Threads + Sync, G: Gate>(
+fn text_of_recording<R: Threads + Sync, G: Gate + Sync>(
     rt: &R,
     alloc: Global,
     size: u8,

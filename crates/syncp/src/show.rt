@@ -1,21 +1,54 @@
 // The mode `witness`.
-ghost use Rattle.std.specs.Prelude.{◌≡◌, ◌≤◌, ℕ, List, Some};
+ghost use Rattle.std.specs.Prelude.{◌≡◌, ◌≤◌, ℕ, List, Some, OnOk, IsErrOf};
 ghost use Rattle.std.specs.Io.KnownBytes.{IsAtEnd};
 ghost use Rattle.sp_base.specs.Causes.{Rose};
 ghost use Rattle.sp_base.specs.Moves.{Took, Gained};
 ghost use Rattle.syncp.specs.Modes.{IsAccepted};
-ghost use Rattle.syncp.specs.Outcome.{Explains, IsAnswered, IsDone};
+ghost use Rattle.syncp.specs.Outcome.{Explains, IsAnswered, IsDone, Makes};
 ghost use Rattle.syncp.specs.Output.{IsWithinLimit};
 ghost use Rattle.syncp.specs.Tasks.{Witness};
 
+use crate::answer::{sink_with, write_answer};
 use crate::command::MAX_FINDING;
-use crate::find::{FindFault, find};
 use crate::outcome::{Fault, Outcome};
-use crate::reading::read_trace;
+use crate::predicted::read_predicted;
 use crate::witness_text::witness_text;
-use sp_base::{Gate, MAX_SIZE, MAX_WORKERS, MIN_SIZE, Sink, Source, WriteFault, write_all};
+use sp_base::{Gate, MAX_SIZE, MAX_WORKERS, MIN_SIZE, Sink, Source, SureSink};
 use std::alloc::Global;
 use std::thread::Threads;
+
+// Reads a trace, and answers the witness of the finding of a number.
+#[tactic(auto, using(crate::proofs::Showing::shown, crate::proofs::Showing::lacking, crate::proofs::Predicting::before_finding))]
+fn witness_of_source<R: Threads + Sync, S: Source, G: Gate + Sync>(
+    rt: &R,
+    alloc: Global,
+    size: u8,
+    workers: u8,
+    finding: u32,
+    source: &mut S,
+    gate: &G,
+) -> Result<(SureSink, bool), Fault>
+    requires least_size { MIN_SIZE ≤ size }
+    requires greatest_size { size ≤ MAX_SIZE }
+    requires least_workers { 1 ≤ workers }
+    requires greatest_workers { workers ≤ MAX_WORKERS }
+    requires least_finding { 1 ≤ finding }
+    ensures read { Took (S.left source.old) (S.left source.new) (λ input. IsWithinLimit input × Makes (Witness size finding) (IsAtEnd (S.left source.new)) result input) }
+    ensures ended { OnOk result (IsAtEnd (S.left source.new)) }
+    ensures cause { IsErrOf result Fault.Read → Rose (S.faults source.old) (S.faults source.new) }
+{
+    let ((trace, names), findings) = read_predicted(rt, alloc, size, workers, source, gate)?;
+    if findings.len() < finding {
+        return Err(Fault::NoFinding);
+    }
+    let Ok(text) = witness_text(alloc, &trace, &names, &findings, finding) else {
+        return Err(Fault::OutOfMemory);
+    };
+    match sink_with(alloc, &text) {
+        Ok(sink) => Ok((sink, true)),
+        Err(_) => Err(Fault::OutOfMemory),
+    }
+}
 
 /// Reads a trace and writes the witness of the finding of a number, which counts from 1 in the order of the report's
 /// lines: the events of the least sync-preserving correct reordering that leaves the finding's places enabled, in the
@@ -25,7 +58,7 @@ use std::thread::Threads;
 /// input is a trace that has too many patterns of at most that size, and `NoFinding`, which comes where it has not, and has
 /// fewer findings. `Read` and `Write` come only where the count of faults of the source or of the sink rose; after `Write`,
 /// and after want of memory, a front of the witness is written.
-pub fn show<R: Threads + Sync, S: Source, K: Sink, G: Gate>(
+pub fn show<R: Threads + Sync, S: Source, K: Sink, G: Gate + Sync>(
     rt: &R,
     alloc: Global,
     size: u8,
@@ -56,24 +89,6 @@ pub fn show<R: Threads + Sync, S: Source, K: Sink, G: Gate>(
         ¬ Rose (S.faults source.old) (S.faults source.new) → ¬ Rose (K.faults out.old) (K.faults out.new) →
         IsAnswered (Witness size finding) result }
 {
-    let (trace, names) = match read_trace(alloc, source) {
-        Ok(read) => read,
-        Err(fault) => return Outcome::Refused(fault),
-    };
-    let findings = match find(rt, alloc, &trace, size, workers, gate) {
-        Ok(findings) => findings,
-        Err(FindFault::TooManyPatterns) => return Outcome::Refused(Fault::TooManyPatterns),
-        Err(FindFault::OutOfMemory) => return Outcome::Refused(Fault::OutOfMemory),
-    };
-    if findings.len() < finding {
-        return Outcome::Refused(Fault::NoFinding);
-    }
-    let Ok(text) = witness_text(alloc, &trace, &names, &findings, finding) else {
-        return Outcome::Refused(Fault::OutOfMemory);
-    };
-    match write_all(out, &text) {
-        Ok(()) => Outcome::Done { found: true },
-        Err(WriteFault::Failed) => Outcome::Refused(Fault::Write),
-        Err(WriteFault::OutOfMemory) => Outcome::Refused(Fault::OutOfMemory),
-    }
+    let witness = witness_of_source(rt, alloc, size, workers, finding, source, gate);
+    write_answer(out, witness)
 }

@@ -2,7 +2,7 @@
 ghost use Rattle.std.specs.Prelude.{◌≡◌, ◌<◌, ◌≤◌, All, IfOk, length};
 ghost use Rattle.replayer.specs.Replays.{along};
 ghost use Rattle.std_text.specs.Writing.{AreNamed, trace_text};
-ghost use Rattle.syncp.specs.Predictions.{ArePredicted, count_of_findings};
+ghost use Rattle.predictor.specs.Predictions.{ArePredicted, count_of_findings};
 ghost use Rattle.syncp.specs.Witnesses.{WritesFinding, target_of};
 
 use replayer::reorder;

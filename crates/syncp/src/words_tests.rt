@@ -49,7 +49,7 @@ const HELP: &str = "Predicts data races and deadlocks from a trace of lock event
 Usage: syncp [OPTIONS] <mode>
 
 Arguments:
-  <mode>  [possible values: predict, record, witness, replay, run]
+  <mode>  [possible values: predict, record, witness, replay, run, bench]
 
 Options:
       --size <size>        The greatest size of a deadlock pattern [default: 3]
@@ -62,7 +62,7 @@ Options:
 
 // What refuses `syncp explain`.
 const NO_MODE: &str = "error: invalid value 'explain' for '<mode>'
-  [possible values: predict, record, witness, replay, run]
+  [possible values: predict, record, witness, replay, run, bench]
 
 Usage: syncp [OPTIONS] <mode>
 

@@ -1,0 +1,4 @@
+pub mod Predictions
+pub mod Searches
+pub mod Borders
+pub mod Parts

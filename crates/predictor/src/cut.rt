@@ -1,0 +1,123 @@
+// Where a search is cut into jobs. How it is cut has no part in what is found, and does not depend on the number of workers.
+ghost use Rattle.std.specs.Prelude.{◌≡◌, ◌≤◌, ◌+◌, ◌++◌, [], ◌∷◌, length, IfOk, OnOk};
+ghost use Rattle.sp_base.specs.declared.limits.TheConstants.{MAX_VARS, MAX_PATTERNS};
+ghost use Rattle.predictor.specs.declared.cut.TheConstants.{MAX_RANGES};
+ghost use Rattle.predictor.specs.Borders.{Rise, AreBorders, border, EndAt};
+
+use sp_base::{MAX_PATTERNS, MAX_VARS, OutOfMemory, VarId};
+use std::alloc::Global;
+use trace_index::Index;
+
+/// The most ranges of variables, and the most ranges of patterns.
+const MAX_RANGES: u32 = 32;
+
+/// Into how many shares the accesses are divided. A range of variables has at most one share, or is one variable alone.
+const SHARES: u64 = 16;
+
+/// A border between two jobs: the number of the first variable behind it, and that of the first pattern.
+#[derive(Clone, Copy, Debug, PartialEq, Eq)]
+pub struct Border {
+    pub variable: u32,
+    pub pattern: u32,
+}
+
+// How many accesses a variable has.
+fn accesses_of(index: &Index<'_>, variable: u32) -> u64 {
+    match VarId::new(variable) {
+        Some(var) => index.accesses(var).len() as u64,
+        None => 0,
+    }
+}
+
+// How many accesses a range of variables has at most, where it has more than one variable.
+fn share_of(index: &Index<'_>) -> u64 {
+    let mut accesses: u64 = 0;
+    for variable in 0..MAX_VARS {
+        accesses = accesses.saturating_add(accesses_of(index, variable));
+    }
+    accesses.div_ceil(SHARES)
+}
+
+// Adds a border.
+fn add(borders: &mut Vec<Border>, variable: u32, pattern: u32) -> Result<(), OutOfMemory>
+    ensures { OnOk result (borders.new.items ≡ borders.old.items ++ border variable pattern ∷ []) }
+{
+    let Ok(()) = borders.push(Border { variable, pattern }) else {
+        return Err(OutOfMemory);
+    };
+    Ok(())
+}
+
+// Whether a range with accesses ends before a variable, which would bring it above the share.
+fn ends_before(range: u64, variable: u64, share: u64) -> bool {
+    range > 0 && variable > 0 && range.saturating_add(variable) > share
+}
+
+// Adds a border before a variable, where the range before it ends there. Answers how many accesses the range of the variable
+// has up to it.
+fn add_before(
+    borders: &mut Vec<Border>,
+    variable: u32,
+    range: u64,
+    more: u64,
+    share: u64,
+) -> Result<u64, OutOfMemory>
+    requires rise { Rise variable 0 borders.old.items }
+    requires few { length borders.old.items ≤ MAX_RANGES }
+    ensures rise { IfOk result (λ _. Rise (variable + 1) 0 borders.new.items) }
+    ensures few { IfOk result (λ _. length borders.new.items ≤ MAX_RANGES) }
+{
+    if borders.len() < MAX_RANGES as usize && ends_before(range, more, share) {
+        add(borders, variable, 0)?;
+        return Ok(more);
+    }
+    Ok(range.saturating_add(more))
+}
+
+// The borders of the ranges of variables. Each range has accesses, where the trace has any.
+fn cut_variables(alloc: Global, index: &Index<'_>) -> Result<Vec<Border>, OutOfMemory>
+    ensures rise { IfOk result (λ borders. Rise MAX_VARS 0 borders.items) }
+    ensures end { IfOk result (λ borders. EndAt MAX_VARS 0 borders.items) }
+    ensures few { IfOk result (λ borders. length borders.items ≤ MAX_RANGES + 1) }
+{
+    let share = share_of(index);
+    let mut borders = Vec::new(alloc);
+    add(&mut borders, 0, 0)?;
+    let mut accesses = 0;
+    for variable in 0..MAX_VARS {
+        let more = accesses_of(index, variable);
+        accesses = add_before(&mut borders, variable, accesses, more, share)?;
+    }
+    add(&mut borders, MAX_VARS, 0)?;
+    Ok(borders)
+}
+
+// Adds the borders of ranges of so many patterns, of which only the last may be shorter.
+fn cut_patterns(borders: &mut Vec<Border>, patterns: u32) -> Result<(), OutOfMemory>
+    requires few { patterns ≤ MAX_PATTERNS }
+    requires rise { Rise MAX_VARS 0 borders.old.items }
+    requires end { EndAt MAX_VARS 0 borders.old.items }
+    ensures rise { OnOk result (Rise MAX_VARS patterns borders.new.items) }
+    ensures end { OnOk result (EndAt MAX_VARS patterns borders.new.items) }
+    ensures few { OnOk result (length borders.new.items ≤ length borders.old.items + patterns) }
+{
+    let width = patterns.div_ceil(MAX_RANGES);
+    let mut pattern = 0;
+    while pattern < patterns {
+        pattern = (pattern + width).min(patterns);
+        add(borders, MAX_VARS, pattern)?;
+    }
+    Ok(())
+}
+
+/// The borders of the jobs of a search: job `n` lies between border `n` and the next one. The jobs of variables come first.
+/// The only error is want of memory.
+pub fn cut(alloc: Global, index: &Index<'_>, patterns: u32) -> Result<Vec<Border>, OutOfMemory>
+    requires { patterns ≤ MAX_PATTERNS }
+    ensures borders { IfOk result (λ borders. AreBorders MAX_VARS patterns borders.items) }
+    ensures few { IfOk result (λ borders. length borders.items ≤ MAX_RANGES + 1 + MAX_PATTERNS) }
+{
+    let mut borders = cut_variables(alloc, index)?;
+    cut_patterns(&mut borders, patterns)?;
+    Ok(borders)
+}

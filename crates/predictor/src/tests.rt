@@ -1,0 +1,179 @@
+// A search of small traces, by several numbers of workers.
+ghost use Rattle.std.specs.Prelude.{◌<◌, ◌≤◌};
+ghost use Rattle.sp_base.specs.declared.limits.TheConstants.{MAX_WORKERS};
+ghost use Rattle.trace_laws.specs.Traces.{AreNamedBelow, NamesBelow};
+
+use crate::{FindFault, find};
+use sp_base::{Gate, LockId, MAX_SIZE, OpenGate, ThreadId, VarId};
+use std::alloc::Global;
+use std::marker::Sync;
+use std::process::Abort;
+use std::sync::atomic::{AtomicBool, Ordering};
+use std::test::Fail;
+use std::thread;
+use std::thread::Threads;
+use trace_laws::{Builder, Event, Finding, Op, Race, Trace};
+
+// Adds an event of one of two threads.
+fn add(rt: &impl Abort, builder: &mut Builder, thread: ThreadId, op: Op)
+    requires named { AreNamedBelow builder.old.events 2 }
+    requires thread { thread < 2 }
+    requires op { NamesBelow op 2 }
+    ensures { AreNamedBelow builder.new.events 2 }
+{
+    let event = Event { thread, op, loc: 0 };
+    assert!(rt; builder.push(event).is_ok());
+}
+
+// A thread takes a lock within another one.
+fn add_nested(rt: &impl Abort, builder: &mut Builder, thread: ThreadId, outer: u32, inner: u32)
+    requires named { AreNamedBelow builder.old.events 2 }
+    requires thread { thread < 2 }
+    ensures { AreNamedBelow builder.new.events 2 }
+{
+    let outer = LockId::new(outer).expect(rt, "a lock");
+    let inner = LockId::new(inner).expect(rt, "a lock");
+    add(rt, builder, thread, Op::Acquire(outer));
+    add(rt, builder, thread, Op::Acquire(inner));
+    add(rt, builder, thread, Op::Release(inner));
+    add(rt, builder, thread, Op::Release(outer));
+}
+
+// A thread writes so many variables, and another thread writes them the other way round.
+fn add_writes(rt: &impl Abort, builder: &mut Builder, first: ThreadId, second: ThreadId, vars: u32)
+    requires named { AreNamedBelow builder.old.events 2 }
+    requires first { first < 2 }
+    requires second { second < 2 }
+    ensures { AreNamedBelow builder.new.events 2 }
+{
+    for number in 0..vars {
+        let var = VarId::new(number).expect(rt, "a variable");
+        add(rt, builder, first, Op::Write(var));
+    }
+    for back in (0..vars).rev() {
+        let var = VarId::new(back).expect(rt, "a variable");
+        add(rt, builder, second, Op::Write(var));
+    }
+}
+
+// Two threads that write so many variables, and then take two locks crosswise.
+fn crossed(rt: &impl Abort, alloc: Global, vars: u32) -> Trace {
+    let first = ThreadId::new(0).expect(rt, "a thread");
+    let second = ThreadId::new(1).expect(rt, "a thread");
+    let mut builder = Builder::new(alloc, 256).expect(rt, "room");
+    add_writes(rt, &mut builder, first, second, vars);
+    add_nested(rt, &mut builder, first, 0, 1);
+    add_nested(rt, &mut builder, second, 1, 0);
+    builder.finish(2)
+}
+
+// Two threads that write two variables.
+fn two_writes(rt: &impl Abort, alloc: Global) -> Trace {
+    let first = ThreadId::new(0).expect(rt, "a thread");
+    let second = ThreadId::new(1).expect(rt, "a thread");
+    let mut builder = Builder::new(alloc, 4).expect(rt, "room");
+    add_writes(rt, &mut builder, first, second, 2);
+    builder.finish(2)
+}
+
+// Whether a finding is that race.
+fn is_race(finding: &Finding, later: u32, earlier: u32) -> bool {
+    match finding {
+        Finding::Race(race, _) => *race == Race { later, earlier },
+        Finding::Deadlock(_, _) => false,
+    }
+}
+
+// Whether a finding is the deadlock of those places.
+fn is_deadlock(finding: &Finding, picks: [u32; 2]) -> bool {
+    match finding {
+        Finding::Race(_, _) => false,
+        Finding::Deadlock(deadlock, _) => deadlock.picks() == picks.as_slice(),
+    }
+}
+
+// Whether the search of a crossed trace by so many workers finds the race of each variable, in the order of the later places,
+// and then the deadlock.
+fn finds_all<R: Threads + Sync + Abort>(
+    rt: &R,
+    alloc: Global,
+    vars: u32,
+    workers: u8,
+) -> Result<bool, FindFault>
+    requires vars { vars ≤ 100 }
+    requires least_workers { 1 ≤ workers }
+    requires greatest_workers { workers ≤ MAX_WORKERS }
+{
+    let trace = crossed(rt, alloc, vars);
+    let found = find(rt, alloc, &trace, MAX_SIZE, workers, &OpenGate)?;
+    if found.len() != vars + 1 {
+        return Ok(false);
+    }
+    for n in 0..vars {
+        if !is_race(found.get(n), vars + n, vars - 1 - n) {
+            return Ok(false);
+        }
+    }
+    Ok(is_deadlock(found.get(vars), [2 * vars + 1, 2 * vars + 5]))
+}
+
+#[test]
+fn the_same_for_each_number_of_workers(rt: HostRuntime) -> Result<(), Fail> {
+    let alloc = rt.alloc();
+    assert!(rt; finds_all(&rt, alloc, 0, 2)?);
+    assert!(rt; finds_all(&rt, alloc, 1, 2)?);
+    assert!(rt; finds_all(&rt, alloc, 3, 1)?);
+    assert!(rt; finds_all(&rt, alloc, 3, 2)?);
+    assert!(rt; finds_all(&rt, alloc, 3, 64)?);
+    assert!(rt; finds_all(&rt, alloc, 70, 1)?);
+    assert!(rt; finds_all(&rt, alloc, 70, 64)?);
+    Ok(())
+}
+
+/// How many turns a job waits for another.
+const TURNS: u32 = 10_000_000;
+
+// A gate at which a job waits until one with another number begins: the first job for any other, and those for the first.
+#[derive(Drop)]
+struct Meeting {
+    first_began: AtomicBool,
+    other_began: AtomicBool,
+    missed: AtomicBool,
+}
+
+impl Gate for Meeting {
+    fn before(&self, _thread: ThreadId, _call: u32) {}
+
+    fn inside(&self, _thread: ThreadId, _call: u32) {}
+
+    fn job(&self, number: u32) {
+        let (own, awaited) = if number == 0 {
+            (&self.first_began, &self.other_began)
+        } else {
+            (&self.other_began, &self.first_began)
+        };
+        own.store(true, Ordering::SeqCst);
+        for _ in 0..TURNS {
+            if awaited.load(Ordering::SeqCst) {
+                return;
+            }
+            thread::yield_now();
+        }
+        self.missed.store(true, Ordering::SeqCst);
+    }
+}
+
+#[test]
+fn two_jobs_meet(rt: HostRuntime) -> Result<(), Fail> {
+    let trace = two_writes(&rt, rt.alloc());
+    let gate = Meeting {
+        first_began: AtomicBool::new(false),
+        other_began: AtomicBool::new(false),
+        missed: AtomicBool::new(false),
+    };
+    let found = find(&rt, rt.alloc(), &trace, MAX_SIZE, 2, &gate)?;
+    assert_eq!(rt; found.len(), 2);
+    assert!(rt; gate.first_began.load(Ordering::SeqCst) && gate.other_began.load(Ordering::SeqCst));
+    assert!(rt; !gate.missed.load(Ordering::SeqCst));
+    Ok(())
+}
