@@ -1,7 +1,7 @@
-# Prints a lawful trace of EVENTS events of 4 threads, 8 locks and 64 variables, the same for the same SEED:
-#   awk -v EVENTS=4000 -v SEED=1 -f bench/trace.awk
-# Five of eight turns are reads and writes. A thread takes at most two locks, the second of a greater number,
-# and gives back the one that it took last.
+# Prints a lawful trace of EVENTS events of 4 threads, 8 locks and 64 variables, or VARS variables, the same for the same SEED:
+#   awk -v EVENTS=4000 -v SEED=1 [-v VARS=64] [-v DEPTH=2] -f bench/trace.awk
+# Five of eight turns are reads and writes. A thread takes at most two locks, or DEPTH locks, each of a greater number than
+# those that it holds, and gives back the one that it took last.
 
 function draw(n) {
   state = (state * 16807) % 2147483647
@@ -9,7 +9,7 @@ function draw(n) {
 }
 
 function access(thread, word) {
-  printf "T%d|%s(X%d)|%d\n", thread, word, draw(64), ++line
+  printf "T%d|%s(X%d)|%d\n", thread, word, draw(VARS), ++line
 }
 
 function take(thread, lock) {
@@ -25,13 +25,15 @@ function give(thread) {
 
 BEGIN {
   state = SEED
+  if (VARS == "") VARS = 64
+  if (DEPTH == "") DEPTH = 2
   while (line < EVENTS) {
     thread = draw(4)
     action = draw(8)
     lock = draw(8)
     if (action < 3) access(thread, "r")
     else if (action < 5) access(thread, "w")
-    else if (action < 7 && !owner[lock] && (depth[thread] == 0 || (depth[thread] == 1 && held[thread, 1] < lock))) take(thread, lock)
+    else if (action < 7 && !owner[lock] && (depth[thread] == 0 || (depth[thread] < DEPTH && held[thread, depth[thread]] < lock))) take(thread, lock)
     else if (depth[thread] > 0) give(thread)
     else access(thread, "r")
   }
