@@ -39,7 +39,7 @@ drawn_not_refused size seed events few (fault.Text f holder) known = known
 drawn_not_refused size seed events few (fault.Script f) known = known
 drawn_not_refused size seed events few (fault.NotAStep place) known = known
 drawn_not_refused size seed events few fault.TooManyPatterns known =
-    few.2 (subst (λ (p : Progress). HasMorePatterns p.reading.events size) (one_trace seed events known.0 few.0 known.1 few.1) known.2)
+    few.2 (subst (λ (p : Progress). HasMorePatterns p.reading.events size) (one_trace seed events known.1.0 few.0 known.1.1 few.1) known.1.2)
 drawn_not_refused size seed events few fault.NoFinding known = known
 drawn_not_refused size seed events few fault.Read known = known
 drawn_not_refused size seed events few fault.Write known = known

@@ -47,14 +47,14 @@ IsAccepted (Replay size) input = (r : SaysRun input) × HasFewPatterns r.run siz
 IsAccepted (Run size) input = (program : Program) × IsScriptOf input program
 IsAccepted (Bench size seed events) input = HasFewDrawn size seed events
 
--- the output for an input, and whether it has a finding
+-- the output for an input, and whether it has a finding; nothing is read for a trace that is drawn
 abbrev pub IsOutputOf : Task → List ℕ → List ℕ → Bool → Type 0
 IsOutputOf (Predict size) input text found = IsOutput size input text found
 IsOutputOf Record input text found = IsRecordOf input text × (found ≡ false)
 IsOutputOf (Witness size number) input text found = IsWitness size number input text × (found ≡ true)
 IsOutputOf (Replay size) input text found = IsReplay size input text found
 IsOutputOf (Run size) input text found = IsRunOf size input text found
-IsOutputOf (Bench size seed events) input text found = IsBench size seed events text × (found ≡ false)
+IsOutputOf (Bench size seed events) input text found = (input ≡ []) × IsBench size seed events text × (found ≡ false)
 
 -- what may be written for an input: its output, or the front of it that a run with too many patterns leaves
 abbrev pub MayWrite : Task → List ℕ → List ℕ → Type 0
@@ -102,7 +102,7 @@ IsRefusedIn (Replay size) Ended (NotAStep place) input = SaysNoRun input place �
 IsRefusedIn (Replay size) Ended TooManyPatterns input = SaysManyPatterns size input × Ended
 IsRefusedIn (Run size) Ended (Text f holder) input = IsTooLong input f × (holder ≡ [])
 IsRefusedIn (Run size) Ended (Script f) input = (length input ≤ MAX_INPUT) × FirstFault input f × Ended
-IsRefusedIn (Bench size seed events) Ended TooManyPatterns input = HasManyDrawn size seed events
+IsRefusedIn (Bench size seed events) Ended TooManyPatterns input = (input ≡ []) × HasManyDrawn size seed events
 IsRefusedIn task Ended f input = ⊥
 
 -- there are too many patterns, and nothing is written; but of a run that was recorded its trace and the mark

@@ -1,5 +1,5 @@
 // The trace behind scripts.
-ghost use Rattle.std.specs.Prelude.{◌≡◌, ◌≤◌, ◌<◌, ◌+◌, ◌^◌, length};
+ghost use Rattle.std.specs.Prelude.{◌<◌, ◌+◌, ◌^◌};
 ghost use Rattle.sp_base.specs.declared.limits.TheConstants.{MAX_INPUT};
 ghost use Rattle.std_text.specs.Framing.{start_with};
 ghost use Rattle.syncp.specs.Output.{whole_reading};

@@ -1,7 +1,7 @@
 // The command of the program, with its options and their ranges.
 ghost use Rattle.std.specs.Prelude.{◌≡◌, IfOk, false};
 ghost use Rattle.clap.specs.Words.{app_of, rule_of, with_rule};
-ghost use Rattle.syncp.specs.Words.{events_rule, finding_rule, mode_rule, number_rule, seed_rule, size_rule, the_command, workers_rule};
+ghost use Rattle.syncp.specs.Words.{events_rule, mode_rule, number_rule, seed_rule, size_rule, the_command, workers_rule};
 
 use clap::builder::ValueParser;
 use clap::{Arg, ArgAction, Command};

@@ -1,7 +1,6 @@
 // The text of the replays of what is found.
-ghost use Rattle.std.specs.Prelude.{◌≡◌, ◌++◌, IfOk, OnOk};
-ghost use Rattle.replayer.specs.Replayed.{IsFindingOf, IsReplayOf};
-ghost use Rattle.report.specs.ReachedLines.{reached_line};
+ghost use Rattle.std.specs.Prelude.{◌≡◌, IfOk, OnOk};
+ghost use Rattle.replayer.specs.Replayed.{IsFindingOf};
 ghost use Rattle.predictor.specs.Predictions.{ArePredicted};
 ghost use Rattle.syncp.specs.Replayed.{AddsReplay, WritesReplays};
 

@@ -1,5 +1,5 @@
 // The top call.
-ghost use Rattle.std.specs.Prelude.{◌≡◌, ◌≢◌, ◌⊎◌, List, ℕ, Some, None, map, IfOk, string_bytes};
+ghost use Rattle.std.specs.Prelude.{◌≡◌, ◌≢◌, ◌⊎◌, List, ℕ, Some, None, map, string_bytes};
 ghost use Rattle.std.specs.Io.KnownBytes.{IsAtEnd};
 ghost use Rattle.sp_base.specs.Causes.{Rose};
 ghost use Rattle.sp_base.specs.Moves.{Took, Gained};
@@ -28,12 +28,12 @@ use std::alloc::Global;
 use std::sync::Wait;
 use std::thread::Threads;
 
-/// Does what a mode says with the source, which it reads to its end, and writes to `out` what it makes of it: `predict` reads a trace and writes the
+/// Reads the source to its end and writes to `out` what the mode makes of it: `predict` reads a trace and writes the
 /// report, `witness` reads a trace and writes the events that lead to one of its findings, `record` runs scripts on threads
 /// and writes the trace that is recorded, `run` writes behind that trace the report of it, the replays of what is found and
-/// how the threads ended, `replay` reads scripts and a run of them and writes which calls stand side by side at each
-/// finding, and `bench` reads nothing, draws a trace from a seed and writes how much is found in it. The line of a fault goes
-/// to `err`.
+/// how the threads ended, and `replay` reads scripts and a run of them and writes which calls stand side by side at each
+/// finding. In the mode `bench` nothing is read: a trace is drawn from a seed, and how much is found in it is written. The line
+/// of a fault goes to `err`.
 ///
 /// The words are the program's name, the mode and options. Where they have no reading nothing is read or written to
 /// `out`, and `err` gains a text for the user, which is that of help where help was asked for. A refusal of the input

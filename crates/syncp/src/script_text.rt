@@ -1,5 +1,5 @@
 // The script of a text.
-ghost use Rattle.std.specs.Prelude.{◌≡◌, ◌≤◌, length, MatchResult, OnOk, IsErrOf};
+ghost use Rattle.std.specs.Prelude.{◌≤◌, length, MatchResult, OnOk, IsErrOf};
 ghost use Rattle.std.specs.Io.KnownBytes.{IsAtEnd};
 ghost use Rattle.sp_base.specs.Causes.{Rose};
 ghost use Rattle.sp_base.specs.Moves.{Took};
