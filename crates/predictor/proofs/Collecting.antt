@@ -7,7 +7,7 @@ use Rattle.trace_laws.specs.Traces.{History}
 use Rattle.trace_laws.specs.Findings.{FoundRace, IsFoundRace, by_reorderings}
 use Rattle.trace_laws.proofs.Places.{three_way}
 use Rattle.trace_index.proofs.Accessing.{access_within}
-use Rattle.race_scan.specs.Scans.{Scan, RacesInRange, NoRaceBetween, IsNextRace}
+use Rattle.race_scan.specs.Scans.{Scan, IsInRange, RacesInRange, NoRaceBetween, IsNextRace}
 use Rattle.predictor.specs.Searches.{AreRacesIn}
 
 -- the scan that has passed so many places
@@ -18,6 +18,7 @@ scan_at scan passed = record scan { passed = passed }
 pub record Collected (scan : Scan) (passed : ℕ) (found : List FoundRace) : Type 0 where
   pub within : passed ≤ length scan.trace.events
   pub races : All (IsFoundRace scan.trace.events scan.trace.threads (by_reorderings scan.trace.events)) found
+  pub inside : All (λ r. IsInRange scan.trace.events scan.from scan.to r.later) found
   pub all : (later : ℕ) → later < passed → RacesInRange scan.trace.events scan.from scan.to later → Contains (map (λ r. r.later) found) later
 
 -- none at first
@@ -25,6 +26,7 @@ pub collected_none : (scan : Scan) → Collected scan 0 []
 collected_none scan = record {
   within = omega arith;
   races = All-nil (IsFoundRace scan.trace.events scan.trace.threads (by_reorderings scan.trace.events));
+  inside = All-nil (λ (r : FoundRace). IsInRange scan.trace.events scan.from scan.to r.later);
   all = λ later less race. absurd (omega arith);
 }
 
@@ -33,6 +35,7 @@ pub collected_more : (scan : Scan) (passed : ℕ) (found : List FoundRace) (r : 
 collected_more scan passed found r c next = record {
   within = let less = access_within scan.trace.events r.later next.range.var next.range.accesses in omega arith;
   races = All-push (IsFoundRace scan.trace.events scan.trace.threads (by_reorderings scan.trace.events)) found r c.races next.is_found;
+  inside = All-push (λ (f : FoundRace). IsInRange scan.trace.events scan.from scan.to f.later) found r c.inside next.range;
   all = λ later less race. subst (λ (l : List ℕ). Contains l later) (sym (map-append (λ (f : FoundRace). f.later) found (r ∷ []))) (stands later less race (three_way later r.later));
 }
   where
@@ -50,6 +53,7 @@ collected_more scan passed found r c next = record {
 pub collected_all : (scan : Scan) (passed : ℕ) (found : List FoundRace) → Collected scan passed found → NoRaceBetween scan.trace.events scan.from scan.to passed (length scan.trace.events) → AreRacesIn scan.trace scan.from scan.to found
 collected_all scan passed found c none = record {
   races = c.races;
+  inside = c.inside;
   all = λ later race. stands later race (three_way later passed);
 }
   where
@@ -62,5 +66,6 @@ collected_all scan passed found c none = record {
 pub no_variable : (h : History) (from to : ℕ) → from ≡ to → AreRacesIn h from to []
 no_variable h from to same = record {
   races = All-nil (IsFoundRace h.events h.threads (by_reorderings h.events));
+  inside = All-nil (λ (r : FoundRace). IsInRange h.events from to r.later);
   all = λ later race. let least = race.range.least in let below = race.range.below in absurd (omega arith);
 }

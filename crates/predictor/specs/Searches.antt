@@ -8,7 +8,7 @@ use Rattle.trace_laws.specs.Closed.{by_closure}
 use Rattle.lock_graph.specs.Classes.{Graph}
 use Rattle.pattern_walk.specs.Cycles.{classes_of}
 use Rattle.pattern_walk.specs.Instances.{IsOf}
-use Rattle.race_scan.specs.Scans.{RacesInRange}
+use Rattle.race_scan.specs.Scans.{IsInRange, RacesInRange}
 
 -- exactly the places that race with an earlier one, in the order of the trace, each with the earliest and its keep
 pub record AreRaces (h : History) (found : List FoundRace) : Type 0 where
@@ -17,10 +17,10 @@ pub record AreRaces (h : History) (found : List FoundRace) : Type 0 where
   pub all : (e1 e2 : ℕ) → e1 < e2 → Races h.events e1 e2 → Contains (map (λ r. r.later) found) e2
   pub few : length found ≤ length h.events
 
--- places that race with an earlier one, each with the earliest and its keep, and among them all that do so on a variable of
--- the range
+-- exactly the places that race with an earlier one on a variable of the range, each with the earliest and its keep
 pub record AreRacesIn (h : History) (from to : ℕ) (found : List FoundRace) : Type 0 where
   pub races : All (IsFoundRace h.events h.threads (by_reorderings h.events)) found
+  pub inside : All (λ r. IsInRange h.events from to r.later) found
   pub all : (later : ℕ) → RacesInRange h.events from to later → Contains (map (λ r. r.later) found) later
 
 -- the list has patterns of the trace, in their order, by the numbers of their classes
