@@ -5,7 +5,7 @@ use Rattle.trace_laws.specs.Event.{Event}
 use Rattle.trace_laws.specs.declared.event.Op.TheVariants.{Acquire}
 use Rattle.trace_laws.specs.Trace.{thread_at, op_at, Acquires, Holds}
 use Rattle.trace_laws.specs.Patterns.{Class, IsClass, IsOfClass}
-use Rattle.trace_laws.proofs.Counting.{rising_unique}
+use Rattle.trace_laws.proofs.Ordered.{rising_unique}
 use Rattle.trace_index.specs.HeldSets.{IsAcquire, IsHeldAt, HaveSameHeld, IsFirstAlike}
 
 -- the acquires of a class are acquires

@@ -1,4 +1,3 @@
-pub mod Ranked
 pub mod Chaining
 pub mod Bordering
 pub mod Collecting

@@ -16,14 +16,14 @@ use Rattle.trace_laws.specs.Stored.{IsAt, race_of, deadlock_of}
 use Rattle.trace_laws.specs.declared.finding.Finding.{Finding}
 use Rattle.trace_laws.specs.declared.finding.Finding.TheVariants.{Race, Deadlock}
 use Rattle.trace_laws.proofs.Places.{index_of, contains_at, contains_head, contains_tail, within_from_thread, slice_get-append_left}
-use Rattle.trace_laws.proofs.Counting.{rising_unique}
+use Rattle.trace_laws.proofs.Ordered.{rising_unique, ordered_unique}
 use Rattle.trace_laws.specs.Names.{NameLists}
 use Rattle.replayer.specs.Reorders.{FollowsKeep}
 use Rattle.replayer.specs.Replays.{along}
 use Rattle.std_text.specs.Writing.{trace_text}
 use Rattle.predictor.specs.Predictions.{ArePredictions, ArePredicted, count_of_findings}
 use Rattle.syncp.specs.Witnesses.{Target, WritesFinding, IsNumbered, target_of, race_target, deadlock_target}
-use Rattle.predictor.proofs.Ranked.{not_both, same_length}
+use Rattle.pattern_walk.proofs.Preceding.{before_one_way}
 
 -- the later places of races
 abbrev laters : List FoundRace → List ℕ
@@ -67,7 +67,7 @@ same_count h size one other a b =
     let races : length (laters one.races) ≡ length (laters other.races) = ap length same in
     let first = length-map one.races (λ (r : FoundRace). r.later) in
     let second = length-map other.races (λ (r : FoundRace). r.later) in
-    let patterns : length a.patterns ≡ length b.patterns = same_length ComesBefore not_both a.patterns b.patterns a.pattern_order b.pattern_order (λ p c. (b.members p).1 ((a.members p).0 c)) (λ p c. (a.members p).1 ((b.members p).0 c)) in
+    let patterns : length a.patterns ≡ length b.patterns = ap length (ordered_unique ComesBefore before_one_way a.patterns b.patterns a.pattern_order b.pattern_order (λ p c. (b.members p).1 ((a.members p).0 c)) (λ p c. (a.members p).1 ((b.members p).0 c))) in
     let of_one = AllZip-long (IsFoundDeadlock h.events h.threads (by_reorderings h.events)) a.patterns one.deadlocks a.deadlocks in
     let of_other = AllZip-long (IsFoundDeadlock h.events h.threads (by_reorderings h.events)) b.patterns other.deadlocks b.deadlocks in
     omega arith

@@ -7,7 +7,7 @@ use Rattle.std.proofs.lemmas.Option.{slice_get_within, slice_get-get_or}
 use Rattle.trace_laws.specs.Event.{Event}
 use Rattle.trace_laws.specs.declared.event.Op.TheVariants.{Acquire}
 use Rattle.trace_laws.specs.Trace.{thread_at, Holds}
-use Rattle.trace_laws.proofs.Counting.{rising_unique}
+use Rattle.trace_laws.proofs.Ordered.{rising_unique}
 use Rattle.trace_laws.proofs.Places.{within_from_op}
 use Rattle.trace_laws.proofs.Growing.{slice_get-set_same, slice_get-set_other}
 use Rattle.trace_index.specs.HeldSets.{IsAcquire, IsHeldSet, HaveSameHeld, HaveNoneCommon, IsFirstAlike, AreHeldBy, AreAllDistinct, AreKept, IsNumberedSet, IsFirstWith, AreHeldSets}

@@ -1,9 +1,9 @@
 -- Members of a set counted by threads.
-use Rattle.std.proofs.Common.{◌≡◌, ℕ, zero, suc, ◌+◌, ◌<◌, ◌≤◌, Bool, true, false, cond, List, [], ◌∷◌, ◌++◌, length, ◌⊎◌, inl, inr, refl, sym, ap, subst, ◌∙◌, arith, length-append}
-use Rattle.std.specs.Prelude.{Contains, IsTrue, ◌&&◌}
-use Rattle.trace_laws.specs.Reordering.{Rises}
+use Rattle.std.proofs.Common.{◌≡◌, ℕ, zero, suc, ◌+◌, ◌<◌, ◌≤◌, Bool, true, false, cond, [], ◌∷◌, ◌++◌, length, ◌⊎◌, inl, inr, refl, sym, ap, subst, ◌∙◌, arith, length-append}
+use Rattle.std.specs.Prelude.{IsTrue, ◌&&◌}
 use Rattle.trace_laws.specs.Findings.{HasCount}
-use Rattle.trace_laws.proofs.Places.{false_unless, three_way, index_of, contains_head, contains_tail, contains_cases, contains_none}
+use Rattle.trace_laws.proofs.Places.{false_unless, three_way}
+use Rattle.trace_laws.proofs.Ordered.{rising_unique}
 use Rattle.trace_laws.proofs.Enabling.{members_below, members_are_below, members_rise, members_are_in, members_are_all}
 
 -- one for a number that passes
@@ -33,46 +33,6 @@ count_from_tally n test P only if = record {
   members = λ p. (λ c. if p (members_are_below n test p c) (members_are_in n test p c), λ h. let both = only p h in members_are_all n test p both.0 both.1);
   size = length-members_below n test;
 }
-
--- the rest of a list that rises does too
-rises_tail : (x : ℕ) (xs : List ℕ) → Rises (x ∷ xs) → Rises xs
-rises_tail x xs rises a b i j less at_a at_b = rises (suc a) (suc b) i j (omega arith) at_a at_b
-
--- the first number of a list that rises is the least
-rises_head : (x : ℕ) (xs : List ℕ) → Rises (x ∷ xs) → (y : ℕ) → Contains xs y → x < y
-rises_head x xs rises y c = let at = index_of xs y c in rises zero (suc at.0) x y (omega arith) refl at.1
-
--- lists that rise and have the same elements are equal
-pub rising_unique : (xs ys : List ℕ) → Rises xs → Rises ys → ((p : ℕ) → Contains xs p → Contains ys p) → ((p : ℕ) → Contains ys p → Contains xs p) → xs ≡ ys
-rising_unique [] [] rx ry f g = refl
-rising_unique [] (y ∷ ys) rx ry f g = absurd (contains_none y (g y (contains_head y ys)))
-rising_unique (x ∷ xs) [] rx ry f g = absurd (contains_none x (f x (contains_head x xs)))
-rising_unique (x ∷ xs) (y ∷ ys) rx ry f g = go (rising_unique xs ys (rises_tail x xs rx) (rises_tail y ys ry)) heads
-  where
-    heads : x ≡ y
-    heads = at (contains_cases y ys x (f x (contains_head x xs))) (contains_cases x xs y (g y (contains_head y ys)))
-      where
-        at : (y ≡ x) ⊎ Contains ys x → (x ≡ y) ⊎ Contains xs y → x ≡ y
-        at (inl e) _ = sym e
-        at (inr c) (inl e) = e
-        at (inr c) (inr d) = let down = rises_head y ys ry x c in let up = rises_head x xs rx y d in absurd (omega arith)
-
-    forth : (p : ℕ) → Contains xs p → Contains ys p
-    forth p c = at (contains_cases y ys p (f p (contains_tail x xs p c)))
-      where
-        at : (y ≡ p) ⊎ Contains ys p → Contains ys p
-        at (inl e) = let up = rises_head x xs rx p c in let same = heads in absurd (omega arith)
-        at (inr d) = d
-
-    back : (p : ℕ) → Contains ys p → Contains xs p
-    back p c = at (contains_cases x xs p (g p (contains_tail y ys p c)))
-      where
-        at : (x ≡ p) ⊎ Contains xs p → Contains xs p
-        at (inl e) = let up = rises_head y ys ry p c in let same = heads in absurd (omega arith)
-        at (inr d) = d
-
-    go : (((p : ℕ) → Contains xs p → Contains ys p) → ((p : ℕ) → Contains ys p → Contains xs p) → xs ≡ ys) → x ≡ y → x ∷ xs ≡ y ∷ ys
-    go rest same = let tails = rest forth back in cc
 
 -- a property has one count
 pub count_unique : (P : ℕ → Type 0) (m n : ℕ) → HasCount P m → HasCount P n → m ≡ n

@@ -10,6 +10,7 @@ pub mod Deciding
 pub mod LeastClosed
 pub mod Judges
 pub mod Least
+pub mod Ordered
 pub mod Counting
 pub mod NameLemmas
 pub mod Locations

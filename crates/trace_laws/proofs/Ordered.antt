@@ -1,23 +1,9 @@
--- Lists in a strict order, and the order of patterns.
-use Rattle.std.proofs.Common.{◌≡◌, zero, suc, ◌<◌, List, [], ◌∷◌, length, map, ◌⊎◌, inl, inr, refl, sym, subst, arith}
-use Rattle.std.specs.Prelude.{Contains, AllPairs, slice_index}
-use Rattle.trace_laws.specs.Patterns.{Class, ComesBefore, first_place}
-use Rattle.trace_laws.proofs.Places.{three_way, contains_head, contains_tail, contains_cases, contains_none}
-
--- of two patterns not each comes before the other
-pub not_both : (p q : List Class) → ComesBefore p q → ComesBefore q p → ⊥
-not_both p q (inl a) (inl b) = omega arith
-not_both p q (inl a) (inr b) = let same = b.0 in omega arith
-not_both p q (inr a) (inl b) = let same = a.0 in omega arith
-not_both p q (inr a) (inr b) = at (three_way a.1.0 b.1.0)
-  where
-    at : (a.1.0 < b.1.0) ⊎ ((a.1.0 ≡ b.1.0) ⊎ (b.1.0 < a.1.0)) → ⊥
-    at (inl less) = let rise = a.1.1 in let same = b.1.2 a.1.0 less in omega arith
-    at (inr (inl same)) =
-        let rise = a.1.1 in
-        let fall : slice_index (map first_place q) a.1.0 < slice_index (map first_place p) a.1.0 = subst (λ k. slice_index (map first_place q) k < slice_index (map first_place p) k) (sym same) b.1.1 in
-        omega arith
-    at (inr (inr more)) = let rise = b.1.1 in let same = a.1.2 b.1.0 more in omega arith
+-- Lists in a strict order.
+use Rattle.std.proofs.Common.{◌≡◌, ℕ, zero, suc, ◌<◌, List, [], ◌∷◌, ◌⊎◌, inl, inr, refl, sym, subst, arith}
+use Rattle.std.specs.Prelude.{Contains, AllPairs}
+use Rattle.std.proofs.lemmas.Option.{slice_get-get_or}
+use Rattle.trace_laws.specs.Reordering.{Rises}
+use Rattle.trace_laws.proofs.Places.{contains_head, contains_tail, contains_cases, contains_none}
 
 -- an order in which of two elements not each stands before the other
 module _ {X : Type 0} (R : X → X → Type 0) (strict : (x y : X) → R x y → R y x → ⊥) where
@@ -29,12 +15,12 @@ module _ {X : Type 0} (R : X → X → Type 0) (strict : (x y : X) → R x y →
   first_before : (x : X) (xs : List X) → AllPairs R (x ∷ xs) → (y : X) → Contains xs y → R x y
   first_before x xs order y c = let within = c.1 in subst (R x) c.2 (order zero (suc c.0) y (omega arith) (omega arith))
 
-  -- such lists with the same elements have one length
-  pub same_length : (xs ys : List X) → AllPairs R xs → AllPairs R ys → ((z : X) → Contains xs z → Contains ys z) → ((z : X) → Contains ys z → Contains xs z) → length xs ≡ length ys
-  same_length [] [] ox oy f g = refl
-  same_length [] (y ∷ ys) ox oy f g = absurd (contains_none y (g y (contains_head y ys)))
-  same_length (x ∷ xs) [] ox oy f g = absurd (contains_none x (f x (contains_head x xs)))
-  same_length (x ∷ xs) (y ∷ ys) ox oy f g = let rest = same_length xs ys (rest_ordered x xs ox) (rest_ordered y ys oy) forth back in omega arith
+  -- such lists with the same elements are equal
+  pub ordered_unique : (xs ys : List X) → AllPairs R xs → AllPairs R ys → ((z : X) → Contains xs z → Contains ys z) → ((z : X) → Contains ys z → Contains xs z) → xs ≡ ys
+  ordered_unique [] [] ox oy f g = refl
+  ordered_unique [] (y ∷ ys) ox oy f g = absurd (contains_none y (g y (contains_head y ys)))
+  ordered_unique (x ∷ xs) [] ox oy f g = absurd (contains_none x (f x (contains_head x xs)))
+  ordered_unique (x ∷ xs) (y ∷ ys) ox oy f g = let same = heads in let rest = ordered_unique xs ys (rest_ordered x xs ox) (rest_ordered y ys oy) forth back in cc
     where
       heads : x ≡ y
       heads = at (contains_cases y ys x (f x (contains_head x xs))) (contains_cases x xs y (g y (contains_head y ys)))
@@ -63,3 +49,11 @@ module _ {X : Type 0} (R : X → X → Type 0) (strict : (x y : X) → R x y →
               heads_there : y ≡ z
               heads_there = let same = heads in cc
           at (inr d) = d
+
+-- a list that rises is in the order of numbers
+rises_ordered : (xs : List ℕ) → Rises xs → AllPairs (λ a b. a < b) xs
+rises_ordered xs rises i j d less within = rises i j _ _ less (slice_get-get_or xs i d (omega arith)) (slice_get-get_or xs j d within)
+
+-- lists that rise and have the same elements are equal
+pub rising_unique : (xs ys : List ℕ) → Rises xs → Rises ys → ((p : ℕ) → Contains xs p → Contains ys p) → ((p : ℕ) → Contains ys p → Contains xs p) → xs ≡ ys
+rising_unique xs ys rx ry f g = ordered_unique (λ a b. a < b) (λ a b up down. omega arith) xs ys (rises_ordered xs rx) (rises_ordered ys ry) f g
