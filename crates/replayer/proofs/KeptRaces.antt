@@ -63,7 +63,7 @@ ready_runs script trace places m event same r ready = record {
 }
 
 -- what holds of two elements holds of all
-all_two : (P : ℕ → Type 0) (a b : ℕ) → P a → P b → All P (a ∷ b ∷ [])
+pub all_two : (P : ℕ → Type 0) (a b : ℕ) → P a → P b → All P (a ∷ b ∷ [])
 all_two P a b at_a at_b zero d less = at_a
 all_two P a b at_a at_b (suc zero) d less = at_b
 all_two P a b at_a at_b (suc (suc k)) d less = absurd (omega arith)

@@ -10,7 +10,7 @@ use Rattle.trace_laws.specs.declared.event.Op.TheVariants.{Read, Write, Acquire,
 use Rattle.trace_laws.specs.Event.{Event}
 use Rattle.trace_laws.specs.Trace.{Reads, Writes, Acquires, Releases, Holds, IsWriter, LockLaw as OrderLaw, Before as OrderBefore, same_thread, fork_event, event_join, fork_join}
 use Rattle.trace_laws.specs.Reordering.{Earlier, CorrectReordering}
-use Rattle.trace_laws.proofs.Places.{contains_at, thread_from_event, op_from_event}
+use Rattle.trace_laws.proofs.Places.{contains_at, slice_get-append_left, thread_from_event, op_from_event}
 use Rattle.script_machine.proofs.Steps.{get_in, in_range, holder_after}
 use Rattle.replayer.specs.Replays.{along}
 use Rattle.replayer.proofs.Along.{upto, Before, holder, writes_by, is_write, last_write, LockLaw, Reordering, holder_push}
@@ -18,12 +18,6 @@ use Rattle.replayer.proofs.Along.{upto, Before, holder, writes_by, is_write, las
 -- the index of an element
 pub index_of : (xs : List ℕ) (x : ℕ) → Contains xs x → (k : ℕ) × (k < length xs) × (slice_get xs k ≡ Some x)
 index_of xs x (k, less, same) = (k, less, slice_get-get_or xs k x less ∙ ap Some same)
-
--- an element of the front of a joined list
-slice_left : {X : Type 0} (xs ys : List X) (k : ℕ) → k < length xs → slice_get (xs ++ ys) k ≡ slice_get xs k
-slice_left [] ys k h = absurd (omega arith)
-slice_left (x ∷ xs) ys zero h = refl
-slice_left (x ∷ xs) ys (suc k) h = slice_left xs ys k (omega arith)
 
 -- the first element after the front
 slice_mid : {X : Type 0} (xs : List X) (x : X) (ys : List X) → slice_get (xs ++ x ∷ ys) (length xs) ≡ Some x
@@ -274,7 +268,7 @@ upto_at : (n k : ℕ) → k < n → slice_get (upto n) k ≡ Some k
 upto_at zero k h = absurd (omega arith)
 upto_at (suc n) k h = elim (cases_eq k n) [
   | inl same ↦ rw same (let mid = slice_mid (upto n) n [] in let there = rw (upto_length n) at mid in there)
-  | inr ne ↦ slice_left (upto n) (n ∷ []) k (let l = upto_length n in omega arith) ∙ upto_at n k (omega arith)
+  | inr ne ↦ slice_get-append_left (upto n) (n ∷ []) k (let l = upto_length n in omega arith) ∙ upto_at n k (omega arith)
 ]
 
 -- the writer of a read in the trace
@@ -304,9 +298,9 @@ bridge trace places correct done p rest split =
     let (event, here) = get_in trace p (correct.within p there) in
     let front : take n places ≡ done = ap (take n) split ∙ take_at done (p ∷ rest) n refl in
     let old : (k i : ℕ) → k < n → slice_get done k ≡ Some i → slice_get places k ≡ Some i =
-    λ k i less at_i. ap (λ xs. slice_get xs k) split ∙ slice_left done (p ∷ rest) k less ∙ at_i in
+    λ k i less at_i. ap (λ xs. slice_get xs k) split ∙ slice_get-append_left done (p ∷ rest) k less ∙ at_i in
     let new : (k i : ℕ) → k < n → slice_get places k ≡ Some i → slice_get done k ≡ Some i =
-    λ k i less at_i. sym (slice_left done (p ∷ rest) k less) ∙ ap (λ xs. slice_get xs k) (sym split) ∙ at_i in
+    λ k i less at_i. sym (slice_get-append_left done (p ∷ rest) k less) ∙ ap (λ xs. slice_get xs k) (sym split) ∙ at_i in
     record {
       event = event;
       here = here;

@@ -5,8 +5,9 @@ use Rattle.trace_laws.specs.declared.event.Op.TheVariants.{Read, Write, Acquire,
 use Rattle.trace_laws.specs.Event.{Event}
 use Rattle.trace_laws.specs.Reordering.{CorrectReordering, Enabled, Accesses, Conflict, LeavesEnabled}
 use Rattle.trace_laws.proofs.Places.{op_from_event, thread_from_event}
-use Rattle.script_machine.specs.Machine.{Script, State, Taken, Step, Run, Can, CanStep, NextCall, after, brings, events, start, is_forked}
+use Rattle.script_machine.specs.Machine.{Script, State, Taken, Step, Run, Can, NextCall, events, start, is_forked}
 use Rattle.script_machine.proofs.Steps.{get_in, thread_other, forked_step}
+use Rattle.script_machine.proofs.Calls.{can_step}
 use Rattle.script_machine.proofs.Determined.{run_unique}
 use Rattle.replayer.specs.Replays.{along, Ready, StaysReady, RaceReached}
 use Rattle.replayer.proofs.Along.{Enabled as EnabledAfter, forked_stays, awake_too}
@@ -21,17 +22,6 @@ can_access script s t (Acquire l) (x, access) = absurd (elim access [ inl h ↦ 
 can_access script s t (Release l) (x, access) = absurd (elim access [ inl h ↦ (cc) | inr h ↦ (cc) ])
 can_access script s t (Fork u) access = tt
 can_access script s t (Join u) (x, access) = absurd (elim access [ inl h ↦ (cc) | inr h ↦ (cc) ])
-
--- a thread that may take its next call can step
-can_step : (script : Script) (s : State) (t : ℕ) (op : Op) → NextCall script s t op → Can script s t op → CanStep script s t
-can_step script s t op next can =
-    let brought = brings s t next.line.instruction in
-    let event : Event = record { thread = t; op = op; loc = next.line.number } in (
-      record { event = event; brought = brought },
-      after s t op brought next.rest,
-      refl,
-      record { line = next.line; rest = next.rest; next = next.next; awake = next.awake; op = next.op; loc = refl; brought = refl; can = can; new = refl },
-    )
 
 -- the step of one thread leaves the next call of another
 pub next_stays : (script : Script) (s s' : State) (taken : Taken) → Step script s taken s' → (t : ℕ) (op : Op)

@@ -1,5 +1,5 @@
 -- A correct reordering of a run is a run of the script.
-use Rattle.std.proofs.Common.{◌≡◌, ℕ, zero, suc, ◌+◌, ◌-◌, ◌<◌, ◌≤◌, true, false, ◌⊎◌, inl, inr, List, [], ◌∷◌, ◌++◌, slice_get, Some, length, Contains, refl, sym, ap, ◌∙◌, subst, arith, add-zero, zero-add, add-suc, append-nil, append_assoc}
+use Rattle.std.proofs.Common.{◌≡◌, ℕ, zero, suc, ◌+◌, ◌-◌, ◌<◌, ◌≤◌, true, false, inl, inr, List, [], ◌∷◌, ◌++◌, slice_get, Some, length, Contains, refl, sym, ap, ◌∙◌, subst, arith, add-zero, zero-add, add-suc, append-nil, append_assoc}
 use Rattle.std.proofs.lemmas.List.Elements.{Contains-push, Contains-push_cases, Contains-append_left}
 use Rattle.std.proofs.lemmas.Bool.{cases_eq, cases_order}
 use Rattle.trace_laws.specs.declared.event.Op.{Op}
@@ -8,28 +8,9 @@ use Rattle.trace_laws.specs.Event.{Event}
 use Rattle.replayer.specs.Replays.{along}
 use Rattle.trace_laws.proofs.Places.{contains_none}
 use Rattle.script_machine.specs.Machine.{Script, State, Taken, Step, Run, Can, IsEnded, NextCall, after, events, start, is_forked, is_waiting}
-use Rattle.script_machine.proofs.Steps.{taken_at, event_at, get_in, in_range, forked_from, thread_same, thread_other, owner_step, forked_step}
+use Rattle.script_machine.proofs.States.{state_at, state_at-zero, state_at-step, forked_at, quiet_after_end}
+use Rattle.script_machine.proofs.Steps.{taken_at, event_at, get_in, in_range, thread_same, thread_other, owner_step, forked_step}
 use Rattle.replayer.proofs.Along.{upto, Before, InOrder, holder, last_write, LockLaw, Follows, Reordering, Enabled, forked_stays, forked_by, value_step, written, holder_push, written_push, brings_same, awake_too}
-
--- the state after the first n events of a run
-abbrev pub state_at : (script : Script) (run : List Taken) (s s' : State) → Run script s run s' → ℕ → State
-state_at script [] s s' r n = s
-state_at script (x ∷ xs) s s' r zero = s
-state_at script (x ∷ xs) s s' r (suc n) = state_at script xs r.0 s' r.2 n
-
--- it begins at the start of the run
-pub state_at-zero : (script : Script) (run : List Taken) (s s' : State) (r : Run script s run s') → state_at script run s s' r 0 ≡ s
-state_at-zero script [] s s' r = refl
-state_at-zero script (x ∷ xs) s s' r = refl
-
--- each element of the run is the step there
-pub state_at-step : (script : Script) (run : List Taken) (s s' : State) (r : Run script s run s') (p : ℕ) (taken : Taken)
-    → slice_get run p ≡ Some taken → Step script (state_at script run s s' r p) taken (state_at script run s s' r (suc p))
-state_at-step script [] s s' r p taken h = absurd (cc)
-state_at-step script (x ∷ xs) s s' r zero taken h =
-    let same : x ≡ taken = cc in
-    rw (state_at-zero script xs r.0 s' r.2) (subst (λ y. Step script s y r.0) same r.1)
-state_at-step script (x ∷ xs) s s' r (suc p) taken h = state_at-step script xs r.0 s' r.2 p taken h
 
 -- the places of the thread that are done are its places before n
 pub record Same (run : List Taken) (t : ℕ) (done : List ℕ) (n : ℕ) : Type 0 where
@@ -54,19 +35,6 @@ module _ (script : Script) (run : List Taken) (at : ℕ → State) (first : at 0
       value_step script _ _ taken (step n taken here) x
       ∙ (rw (values_at n (omega arith) x) (sym (written_push run (upto n) n taken x here)))
 
-  -- a fork that was taken was taken at a place before
-  pub forked_at : (n : ℕ) → n ≤ length run → (u : ℕ) → (at n).forked u ≡ true
-      → (q : ℕ) × (e : Event) × (q < n) × (slice_get (events run) q ≡ Some e) × (e.op ≡ Fork u)
-  forked_at zero h u f = let no : false ≡ true = sym (ap (λ z. z.forked u) first) ∙ f in absurd (cc)
-  forked_at (suc n) h u f =
-      let (taken, here) = get_in run n (omega arith) in
-      let before : ((at n).forked u ≡ true) ⊎ (taken.event.op ≡ Fork u) =
-      forked_from (at n).forked taken.event.op u (sym (forked_step script _ _ taken (step n taken here) u) ∙ f) in
-      elim before [
-        | inl g ↦ (let (q, e, less, is, forks) = forked_at n (omega arith) u g in (q, e, omega arith, is, forks))
-        | inr g ↦ (n, taken.event, omega arith, event_at run n taken here, g)
-      ]
-
   -- a thread stands where it stood, over places that are not its own
   pub local_at : (u m k : ℕ) → m + k ≤ length run
       → ((q : ℕ) (e : Event) → m ≤ q → q < m + k → slice_get (events run) q ≡ Some e → e.thread ≡ u → ⊥)
@@ -78,30 +46,6 @@ module _ (script : Script) (run : List Taken) (at : ℕ → State) (first : at 0
       rw add-suc (thread_other script _ _ taken (step (m + k) taken here) u
       (quiet (m + k) taken.event (omega arith) (omega arith) (event_at run (m + k) taken here))
       ∙ local_at u m k (omega arith) (λ q e low high is mine. quiet q e low (omega arith) is mine))
-
-  -- a thread at its end has no place from there on
-  none_left_at : (u n k : ℕ) → n + k ≤ length run → ((at n).thread u).left ≡ [] → ((at (n + k)).thread u).left ≡ []
-  none_left_at u n zero h none = rw add-zero none
-  none_left_at u n (suc k) h none =
-      let within : n + k < length run = omega arith in
-      let (taken, here) = get_in run (n + k) within in
-      let st = step (n + k) taken here in
-      let still = none_left_at u n k (omega arith) none in
-      let other : taken.event.thread ≡ u → ⊥ = λ mine. (let full = rw mine at st.next in cc) in
-      rw add-suc (rw (thread_other script _ _ taken st u other) still)
-
-  -- a thread at its end has no event from there on
-  pub quiet_after_end : (u n q : ℕ) (e : Event) → ((at n).thread u).left ≡ [] → n ≤ q → slice_get (events run) q ≡ Some e → e.thread ≡ u → ⊥
-  quiet_after_end u n q e none low is mine =
-      let (taken, here, same) = taken_at run q e is in
-      let within : q < length run = in_range run q taken here in
-      let st = step q taken here in
-      let apart : n + (q - n) ≡ q = omega arith in
-      let still = none_left_at u n (q - n) (omega arith) none in
-      let empty = rw apart at still in
-      let own : taken.event.thread ≡ u = ap (λ y. y.thread) same ∙ mine in
-      let full = rw own at st.next in
-      cc
 
   module _ (done : List ℕ) (s : State) (kept : Kept run at done s) (p : ℕ) (taken : Taken) (here : slice_get run p ≡ Some taken)
       (once : Contains done p → ⊥) (before : (i : ℕ) → Before (events run) i p → Contains done i) where
@@ -131,7 +75,7 @@ module _ (script : Script) (run : List Taken) (at : ℕ → State) (first : at 0
     -- a fork that comes before p in program order is done
     fork_too : (u : ℕ) → ((e : Event) → e.op ≡ Fork u → InOrder e taken.event) → (at p).forked u ≡ true → s.forked u ≡ true
     fork_too u order f =
-        let (q, e, less, is, forks) = forked_at p (omega (arith, within)) u f in
+        let (q, e, less, is, forks) = forked_at script run at first step p (omega (arith, within)) u f in
         kept.forked u q e (before q (order_of q e is less (order e forks))) is forks
 
     awake_own : is_waiting script s taken.event.thread ≡ false
@@ -144,7 +88,7 @@ module _ (script : Script) (run : List Taken) (at : ℕ → State) (first : at 0
           below = λ q e is mine inside. elim (cases_order q p) [
             | inl same ↦ absurd (once (subst (λ x. Contains done x) same inside))
             | inr (inl less) ↦ less
-            | inr (inr more) ↦ absurd (quiet_after_end u p q e ended.none_left (omega arith) is mine)
+            | inr (inr more) ↦ absurd (quiet_after_end script run at first step u p q e ended.none_left (omega arith) is mine)
           ];
           above = λ q e is mine less. before q (order_of q e is less (inr (inr (inl (joins ∙ ap Join (sym mine))))));
         } in

@@ -11,7 +11,8 @@ use Rattle.script_machine.specs.Said.{said, action_of}
 use Rattle.script_machine.specs.ScriptText.{Numbered, Tables, Body, Empty, Simple, Choice, Either, Times, Statement, Act, If, Repeat, Else, End, Action, spelling, flattened, at_line, line_of, instruction_of, times}
 use Rattle.script_machine.specs.BodyAt.{IsEnder, Ends, capped, IsPart, IsWhole, IsPiece, IsFlat}
 use Rattle.script_machine.proofs.CappedSizes.{cap_low, cap_self, cap_add, choice_size, either_size, times_size, length_times}
-use Rattle.script_machine.proofs.Unique.{parts, lines_equal}
+use Rattle.script_machine.proofs.Determined.{parts}
+use Rattle.script_machine.proofs.Unique.{lines_equal}
 use Rattle.script_machine.proofs.Bodies.{drop_front}
 
 -- Lists

@@ -16,7 +16,7 @@ use Rattle.script_machine.specs.Machine.{Script, forks, is_forked}
 use Rattle.script_machine.specs.BodyAt.{made_of}
 use Rattle.script_machine.specs.ForkTable.{no_forks, reaches, lesser, noted, lines_for, forked_by, with_fork, with_forks, is_second, second_fork}
 use Rattle.script_machine.specs.Resolving.{resolved_of, resolved_line}
-use Rattle.script_machine.proofs.OneFork.{Among}
+use Rattle.script_machine.proofs.OneFork.{Among, count_cons}
 use Rattle.script_machine.specs.ScriptText.{Numbered, Tables, Statement, Thread, Act, If, Repeat, Else, End, Lock, Unlock, Read, Write, Fork, Join, WriteNumber, Add, number_in, is_second_fork, fault_on, forks_up_to}
 
 -- the entry tells how many forks there are up to each line, and whether there is one
@@ -170,10 +170,6 @@ fork_tells table t count some (instruction.Jump k) n less told = tells_same (lin
 or_join : (a b c : Bool) → (a || (b || c)) ≡ ((a || b) || c)
 or_join true b c = refl
 or_join false b c = refl
-
--- a count of a list with an element in front
-count_cons : {X : Type 0} (p : X → Bool) (x : X) (xs : List X) → count_by p (x ∷ xs) ≡ cond (p x) 1 0 + count_by p xs
-count_cons p x xs = sum_by-cons (λ y. cond (p y) 1 0) x xs
 
 -- the instructions of a body
 body_tells : (lines : List Line) (table : List ForkLines) (t : ℕ) (count : ℕ → ℕ) (some : Bool) → t < length table → Tells (lines_for table t) count some

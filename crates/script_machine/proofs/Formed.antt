@@ -1,5 +1,4 @@
 -- The operands of a script of a text are in range.
-use Rattle.std.specs.Option.{unwrap_or}
 use Rattle.std.specs.Prelude.{bytes_eq, not}
 use Rattle.std.specs.List.{list_any}
 use Rattle.std.proofs.Common.{◌≡◌, ℕ, zero, suc, ◌+◌, ◌<◌, ◌≤◌, true, false, cond, inl, inr, List, [], ◌∷◌, ◌++◌, length, map, slice_get, get_or, fold, filter_map, Option, Some, None, refl, sym, ap, ◌∙◌, subst, length-append, arith}

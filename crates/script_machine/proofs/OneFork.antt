@@ -96,8 +96,8 @@ source names (Times l n b e rest) u line a f = elim (among_split (times n (flatt
   | inr x ↦ source_more names _ _ u line.number (λ s y. among_later _ _ s (among_right (spelling b) _ s (among_later _ _ s y))) (source names rest u line x f)
 ]
 
--- counts
-count_cons : {X : Type 0} (p : X → Bool) (x : X) (xs : List X) → count_by p (x ∷ xs) ≡ cond (p x) 1 0 + count_by p xs
+-- a count of a list with an element in front
+pub count_cons : {X : Type 0} (p : X → Bool) (x : X) (xs : List X) → count_by p (x ∷ xs) ≡ cond (p x) 1 0 + count_by p xs
 count_cons p x xs = sum_by-cons (λ y. cond (p y) 1 0) x xs
 
 -- a count is at least one where one element passes

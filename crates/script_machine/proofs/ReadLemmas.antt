@@ -1,10 +1,9 @@
 -- The lines read so far, and one more.
 use Rattle.std.proofs.Common.{◌≡◌, ℕ, zero, suc, ◌+◌, List, [], ◌∷◌, ◌++◌, length, take, drop, slice_get, filter_map, Option, Some, None, option_to_list, refl, ap, ◌∙◌, append-nil, add-one, add-zero, arith}
-use Rattle.std.specs.Option.{unwrap_or}
 use Rattle.std.specs.List.{enumerate_from}
 use Rattle.std.proofs.lemmas.List.Elements.{filter_map-append}
 use Rattle.std.proofs.lemmas.List.Sums.{fold_push}
-use Rattle.script_machine.specs.ScriptText.{lines_of, words_of, line_says, fault_of, fault_at, statements_of, numbered_of, Numbered, Tables, tables_of, grown, with_name, names_in, first_appearances, thread_name, lock_name, variable_name, open_blocks, is_among, Statement}
+use Rattle.script_machine.specs.ScriptText.{words_of, line_says, fault_of, fault_at, statements_of, numbered_of, Numbered, Tables, tables_of, grown, with_name, names_in, first_appearances, thread_name, lock_name, variable_name, Statement}
 use Rattle.script_machine.specs.Spoken.{grown_by}
 
 -- the lines up to the next one

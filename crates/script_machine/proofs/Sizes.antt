@@ -97,7 +97,7 @@ run_shortens script (x ∷ xs) s s' none (mid, step, run) =
     omega arith
 
 -- past the last thread there is no body
-no_body : (bodies : List (List Line)) (t : ℕ) → length bodies ≤ t → unwrap_or (slice_get bodies t) [] ≡ []
+pub no_body : (bodies : List (List Line)) (t : ℕ) → length bodies ≤ t → unwrap_or (slice_get bodies t) [] ≡ []
 no_body [] t h = refl
 no_body (b ∷ bs) zero h = absurd (omega arith)
 no_body (b ∷ bs) (suc t) h = no_body bs t (omega arith)

@@ -1,6 +1,5 @@
 -- The lists after a step stand for the state after it.
-use Rattle.std.specs.Option.{unwrap_or}
-use Rattle.std.proofs.Common.{◌≡◌, ℕ, zero, suc, ◌<◌, ◌≤◌, List, [], ◌∷◌, length, get_or, slice_set, slice_get, replicate, Bool, true, false, Option, Some, None, inl, inr, refl, sym, ap, ◌∙◌, subst, arith, length-set, get_or-set_same, get_or-set_other}
+use Rattle.std.proofs.Common.{◌≡◌, ℕ, zero, suc, ◌<◌, List, [], ◌∷◌, length, get_or, slice_set, replicate, Bool, true, false, Option, Some, None, inl, inr, refl, sym, ap, ◌∙◌, subst, arith, length-set, get_or-set_same, get_or-set_other}
 use Rattle.std.proofs.lemmas.List.{get_or_read, get_or_past}
 use Rattle.std.proofs.lemmas.List.Elements.{All-head}
 use Rattle.std.proofs.lemmas.Bool.{cases_eq, cases_lt}
@@ -15,6 +14,7 @@ use Rattle.script_machine.specs.Held.{Held, IsWhole, IsIn, IsVariableIn, IsTaken
 use Rattle.script_machine.proofs.Calls.{next_of_call, call_of_step}
 use Rattle.script_machine.proofs.InRange.{Operands, op_there, moved_in_range}
 use Rattle.script_machine.proofs.Settled.{moved_is}
+use Rattle.script_machine.proofs.Sizes.{no_body}
 use Rattle.script_machine.proofs.Steps.{put_same, put_other}
 
 -- an operand of the script is below the length of its list
@@ -201,12 +201,6 @@ replicate_any : {X : Type 0} (n i : ℕ) (a : X) → get_or (replicate n a) i a 
 replicate_any zero i a = refl
 replicate_any (suc n) zero a = refl
 replicate_any (suc n) (suc i) a = replicate_any n i a
-
--- past the last thread there is no body
-no_body : (bodies : List (List Line)) (t : ℕ) → length bodies ≤ t → unwrap_or (slice_get bodies t) [] ≡ []
-no_body [] t h = refl
-no_body (b ∷ bs) zero h = absurd (omega arith)
-no_body (b ∷ bs) (suc t) h = no_body bs t (omega arith)
 
 -- the lists of a machine at the start
 pub start_means : (m : Held) (a b c : ℕ) → length m.threads ≡ length m.script.bodies

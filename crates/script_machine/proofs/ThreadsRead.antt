@@ -1,5 +1,5 @@
 -- The threads of a text, one after the other.
-use Rattle.std.proofs.Common.{◌≡◌, ℕ, zero, suc, ◌+◌, ◌<◌, ◌≤◌, Bool, true, false, inl, inr, List, [], ◌∷◌, ◌++◌, length, drop, map, get_or, slice_get, nat_lt, Option, Some, None, refl, sym, ap, ◌∙◌, subst, append-nil, append_assoc, add-one, arith}
+use Rattle.std.proofs.Common.{◌≡◌, ℕ, zero, suc, ◌+◌, ◌<◌, ◌≤◌, Bool, true, false, inl, inr, List, [], ◌∷◌, ◌++◌, length, drop, map, slice_get, nat_lt, Some, None, refl, sym, ap, ◌∙◌, subst, append-nil, append_assoc, arith}
 use Rattle.std.proofs.lemmas.Bool.{cases_lt, cases_Bool}
 use Rattle.std.proofs.Common.{lt-ltb}
 use Rattle.std.specs.Prelude.{find}
@@ -7,9 +7,10 @@ use Rattle.sp_base.specs.declared.limits.TheConstants.{MAX_INSTRUCTIONS}
 use Rattle.script_machine.specs.Line.{Line}
 use Rattle.script_machine.specs.declared.fault.ScriptKind.TheVariants.{TooManyInstructions}
 use Rattle.script_machine.specs.declared.flatten.Flat.{Flat}
-use Rattle.script_machine.specs.ScriptText.{Numbered, Tables, Body, Thread, spelling, flattened, at_line, ThreadText, threads_spelling, size_fault}
+use Rattle.script_machine.specs.ScriptText.{Numbered, Tables, Thread, spelling, flattened, at_line, ThreadText, threads_spelling, size_fault}
 use Rattle.script_machine.specs.BodyAt.{capped, IsWhole, IsFlat}
-use Rattle.script_machine.proofs.Unique.{parts, threads_end}
+use Rattle.script_machine.proofs.Determined.{parts}
+use Rattle.script_machine.proofs.Unique.{threads_end}
 use Rattle.script_machine.proofs.CappedSizes.{cap_one}
 use Rattle.script_machine.proofs.Flats.{drop_past, get_front}
 use Rattle.script_machine.proofs.Bodies.{drop_front}

@@ -2,10 +2,7 @@
 use Rattle.std.proofs.Common.{◌≡◌, ℕ, List, [], ◌∷◌, ◌++◌, refl, sym, ap, ◌∙◌, subst, append_assoc}
 use Rattle.script_machine.specs.ScriptText.{Numbered, Body, Empty, Simple, Choice, Either, Times, Statement, Thread, Else, End, spelling, at_line, ThreadText, threads_spelling}
 use Rattle.script_machine.specs.BodyAt.{Ends}
-
--- equal lists have equal heads and rests
-pub parts : {X : Type 0} (x y : X) (xs ys : List X) → x ∷ xs ≡ y ∷ ys → (x ≡ y) × (xs ≡ ys)
-parts x y xs ys h = (cc, cc)
+use Rattle.script_machine.proofs.Determined.{parts}
 
 -- equal statements have equal lines and say the same
 pub lines_equal : (l m : ℕ) (s t : Statement) → at_line l s ≡ at_line m t → (l ≡ m) × (s ≡ t)

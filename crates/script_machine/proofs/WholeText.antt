@@ -9,7 +9,7 @@ use Rattle.script_machine.specs.declared.fault.ScriptFault.{ScriptFault as Fault
 use Rattle.script_machine.specs.declared.fault.ScriptKind.TheVariants.{ForkedTwice}
 use Rattle.script_machine.specs.Machine.{Script, forks}
 use Rattle.script_machine.specs.BodyAt.{made_of}
-use Rattle.script_machine.specs.ScriptText.{Numbered, Tables, tables_of, Statement, Act, Fork, ThreadText, threads_spelling, Spells, Scripts, FirstFault, IsClean, lines_of, statements_of, open_blocks, open_fault, unknown_fault, names_of, number_in, fault_on, is_new, other_name, names_in, thread_name, lock_name, variable_name, end_fault, or_else, size_fault, forked_fault, flat_fault, flattened, is_second_fork}
+use Rattle.script_machine.specs.ScriptText.{Numbered, Tables, tables_of, Statement, Act, Fork, ThreadText, threads_spelling, Scripts, FirstFault, IsClean, lines_of, statements_of, open_blocks, open_fault, unknown_fault, names_of, number_in, fault_on, other_name, names_in, thread_name, lock_name, variable_name, end_fault, or_else, size_fault, forked_fault, flattened, is_second_fork}
 use Rattle.script_machine.specs.ResolvedLine.{ResolvedLine}
 use Rattle.script_machine.specs.Resolving.{AreResolved, unknown_in}
 use Rattle.script_machine.specs.declared.forks.ForkLines.{ForkLines}

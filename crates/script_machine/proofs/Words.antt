@@ -1,8 +1,9 @@
 -- The words of a line, one after the other.
-use Rattle.std.proofs.Common.{◌≡◌, ℕ, suc, ◌-◌, ◌<◌, Bool, true, false, not, List, [], ◌∷◌, length, take, drop, filter, nat_lt, refl, sym, ap, ◌∙◌, one-add, arith, length-drop, lt-ltb}
+use Rattle.std.proofs.Common.{◌≡◌, ℕ, suc, ◌-◌, ◌<◌, Bool, true, false, not, List, [], ◌∷◌, length, take, drop, filter, nat_lt, refl, sym, ap, ◌∙◌, one-add, arith, lt-ltb}
 use Rattle.std.specs.List.{prefix_len}
-use Rattle.std.proofs.lemmas.List.{take_all, nil_from_length}
+use Rattle.std.proofs.lemmas.List.{nil_from_length}
 use Rattle.script_machine.specs.ScriptText.{is_blank, words_of, pieces, before_all}
+use Rattle.script_machine.proofs.LineLemmas.{rest_is}
 
 -- a byte of a word
 abbrev pub is_letter : ℕ → Bool
@@ -82,21 +83,17 @@ no_blank_left (b ∷ bs) = go (is_blank b) refl (no_blank_left bs)
     go true e ih = rw (e, one-add) ih
     go false e ih = rw e (rw e refl)
 
--- a slice to the end is the rest
-rest_of : (xs : List ℕ) (n : ℕ) → take (length xs - n) (drop n xs) ≡ drop n xs
-rest_of xs n = take_all (length xs - n) (drop n xs) (omega (arith, length-drop n xs))
-
 -- without words where only blanks stand
 pub no_words : (xs : List ℕ) (b : ℕ) → b ≡ prefix_len is_blank xs → length (take (length xs - b) (drop b xs)) ≡ 0 → words_of xs ≡ []
 no_words xs b e none =
-    let left : drop b xs ≡ [] = nil_from_length (drop b xs) (ap length (sym (rest_of xs b)) ∙ none) in
+    let left : drop b xs ≡ [] = nil_from_length (drop b xs) (ap length (sym (rest_is xs b)) ∙ none) in
     skip_blanks xs ∙ ap (λ n. words_of (drop n xs)) (sym e) ∙ ap words_of left
 
 -- the first word, as slices give it
 pub word_split : (xs ys : List ℕ) (b n : ℕ) → b ≡ prefix_len is_blank xs → ys ≡ take (length xs - b) (drop b xs) → 0 < length ys → n ≡ prefix_len is_letter ys
     → words_of xs ≡ take n ys ∷ words_of (take (length ys - n) (drop n ys))
 word_split xs ys b n blanks are some letters =
-    let ys_is : ys ≡ drop b xs = are ∙ rest_of xs b in
+    let ys_is : ys ≡ drop b xs = are ∙ rest_is xs b in
     let front : prefix_len is_blank ys ≡ 0 = rw (ys_is, blanks) (no_blank_left xs) in
     let here : words_of xs ≡ words_of ys = skip_blanks xs ∙ ap (λ k. words_of (drop k xs)) (sym blanks) ∙ ap words_of (sym ys_is) in
-    rw (rest_of ys n, letters) (here ∙ first_word_is ys some front)
+    rw (rest_is ys n, letters) (here ∙ first_word_is ys some front)

@@ -23,7 +23,7 @@ use Rattle.syncp.specs.Witnesses.{LacksFinding}
 use Rattle.syncp.proofs.Witnessing.{same_count}
 use Rattle.syncp.specs.Modes.{IsAccepted, IsFrontOf, IsRefusedIn, IsRefusalOf, IsCut, IsPastPatterns}
 use Rattle.syncp.specs.Faults.{refusal_with, fault_line}
-use Rattle.syncp.specs.Outcome.{Explains, FailsToRead, FailsToReadTrace}
+use Rattle.syncp.specs.Outcome.{Explains, FailsToRead}
 use Rattle.syncp.specs.Outcome as done
 use Rattle.syncp.specs.Run.{Means, Leaves, TellsOf, TellsLine, IsDone, IsAnswered}
 use Rattle.syncp.specs.Inputs.{scripts_in}

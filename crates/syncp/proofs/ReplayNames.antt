@@ -1,5 +1,5 @@
 -- The calls that a replay leads to have names.
-use Rattle.std.proofs.Common.{◌≡◌, ℕ, zero, suc, [], ◌∷◌, length, IfSome, Some, Contains, slice_get, subst, sym, arith}
+use Rattle.std.proofs.Common.{◌≡◌, ℕ, length, IfSome, Some, Contains, slice_get, subst, sym, arith}
 use Rattle.std.specs.Prelude.{All, List}
 use Rattle.trace_laws.specs.declared.event.Op.TheVariants.{Acquire}
 use Rattle.trace_laws.specs.declared.finding.Finding.{Finding}
@@ -17,16 +17,11 @@ use Rattle.script_machine.specs.Machine.{Script, NextCall, next_call}
 use Rattle.script_machine.specs.Recorded.{AreInRange}
 use Rattle.replayer.specs.Replayed.{Replayed, IsRaceReplay, IsDeadlockReplay, IsReplayOf}
 use Rattle.replayer.proofs.KeptDeadlocks.{all_partners}
+use Rattle.replayer.proofs.KeptRaces.{all_two}
 use Rattle.replayer.proofs.Ordering.{index_of}
 use Rattle.replayer.proofs.Stuck.{blocked_at}
 use Rattle.report.specs.ReachedLines.{IsNextNamed, AreNextNamed}
 use Rattle.syncp.proofs.GivenNames.{operand_named}
-
--- what holds of both of two threads
-both : (P : ℕ → Type 0) (a b : ℕ) → P a → P b → All P (a ∷ b ∷ [])
-both P a b at_a at_b zero d less = at_a
-both P a b at_a at_b (suc zero) d less = at_b
-both P a b at_a at_b (suc (suc k)) d less = absurd (omega arith)
 
 module _ (script : Script) (names : NameLists) (threads : length names.threads ≡ length script.bodies) (locks : length names.locks ≡ script.locks) (vars : length names.vars ≡ script.variables) where
   -- the next call of a thread is that of an event, which has names
@@ -42,7 +37,7 @@ module _ (script : Script) (names : NameLists) (threads : length names.threads �
   race_named run race r is range =
       let there = is.reaches.reached in
       subst (λ ts. All (IsNextNamed names r.machine) ts) (sym is.threads)
-      (both (IsNextNamed names r.machine) there.first.thread there.second.thread
+      (all_two (IsNextNamed names r.machine) there.first.thread there.second.thread
       (next_named r.machine run.events race.later there.first is.same_script range there.at_first there.first_ready.now.next)
       (next_named r.machine run.events race.earlier there.second is.same_script range there.at_second there.second_ready.now.next))
 

@@ -1,7 +1,7 @@
 -- The replays of what is found, line by line.
-use Rattle.std.proofs.Common.{◌≡◌, ℕ, ◌+◌, ◌-◌, ◌≤◌, List, [], ◌∷◌, ◌++◌, length, take, Some, slice_get, refl, sym, ap, ◌∙◌, subst, arith, append-nil, append_assoc, length-append}
+use Rattle.std.proofs.Common.{◌≡◌, ℕ, ◌+◌, ◌-◌, ◌≤◌, List, [], ◌∷◌, ◌++◌, length, take, refl, sym, ap, ◌∙◌, subst, arith, append-nil, append_assoc, length-append}
 use Rattle.std.specs.List.{AllZip}
-use Rattle.std.proofs.lemmas.List.{take_more, take_all, length-take}
+use Rattle.std.proofs.lemmas.List.{take_all, length-take}
 use Rattle.std.proofs.lemmas.Option.{slice_get_within, get_or_from_slice_get}
 use Rattle.trace_laws.specs.Findings.{Found, IsFoundRace, IsFoundDeadlock, by_reorderings}
 use Rattle.trace_laws.specs.Names.{NameLists}
@@ -10,6 +10,7 @@ use Rattle.trace_laws.specs.Traces.{History}
 use Rattle.trace_laws.specs.declared.finding.Finding.{Finding}
 use Rattle.trace_laws.specs.declared.finding.Finding.TheVariants.{Race, Deadlock}
 use Rattle.script_machine.specs.Machine.{Script}
+use Rattle.script_machine.proofs.OfTrace.{take_next}
 use Rattle.replayer.specs.Replayed.{Replayed, IsFindingOf, IsRaceReplay, IsDeadlockReplay}
 use Rattle.report.specs.ReachedLines.{reached_line, closing_reached}
 use Rattle.predictor.specs.Predictions.{ArePredictions, ArePredicted, count_of_findings}
@@ -52,10 +53,6 @@ none_replayed script run found =
     let zero_left : 0 ≡ 0 - length found.races = omega arith in
     record { races = []; deadlocks = []; of_races = tt; of_deadlocks = subst (λ k. AllZip (IsDeadlockReplay script run) (take k found.deadlocks) []) zero_left tt; written = refl }
 
--- one element more at the end of a front
-front_more : {X : Type 0} (xs : List X) (i : ℕ) (x : X) → slice_get xs i ≡ Some x → take (i + 1) xs ≡ take i xs ++ x ∷ []
-front_more xs i x at = take_more xs i x (slice_get_within xs i x at) ∙ ap (λ r. take i xs ++ r ∷ []) (get_or_from_slice_get xs i x x at)
-
 -- one replay more
 pub one_replayed : (script : Script) (run : History) (found : Found) (n number : ℕ) (f : Finding) (old new : List ℕ) → IsAt found n f → number ≡ n + 1
     → AreReplayed script run found n old → AddsReplay script run f number old new → AreReplayed script run found (n + 1) new
@@ -69,7 +66,7 @@ one_replayed script run found n number (Race r keep) old new at counted so adds 
     record {
       races = so.races ++ adds.replay ∷ [];
       deadlocks = so.deadlocks;
-      of_races = subst (λ rs. AllZip (IsRaceReplay script run) rs (so.races ++ adds.replay ∷ [])) (sym (front_more found.races n (race_of (Race r keep)) at))
+      of_races = subst (λ rs. AllZip (IsRaceReplay script run) rs (so.races ++ adds.replay ∷ [])) (sym (take_next found.races n (race_of (Race r keep)) at))
           (zip_push (IsRaceReplay script run) (take n found.races) so.races (race_of (Race r keep)) adds.replay so.of_races adds.is);
       of_deadlocks = subst (λ k. AllZip (IsDeadlockReplay script run) (take k found.deadlocks) so.deadlocks) (sym none_still) so.of_deadlocks;
       written = adds.line ∙ ap (λ l. l ++ reached_line script.names number adds.replay) (so.written ∙ ap (λ ds. reached_lines script.names 1 (so.races ++ ds)) empty ∙ ap (reached_lines script.names 1) (append-nil so.races))
@@ -95,7 +92,7 @@ one_replayed script run found n number (Deadlock picks keep) old new at counted 
       deadlocks = so.deadlocks ++ adds.replay ∷ [];
       of_races = subst (λ rs. AllZip (IsRaceReplay script run) rs so.races) (all ∙ sym all_still) so.of_races;
       of_deadlocks = subst (λ k. AllZip (IsDeadlockReplay script run) (take k found.deadlocks) (so.deadlocks ++ adds.replay ∷ [])) (sym next)
-          (subst (λ ds. AllZip (IsDeadlockReplay script run) ds (so.deadlocks ++ adds.replay ∷ [])) (sym (front_more found.deadlocks (n - length found.races) (deadlock_of (Deadlock picks keep)) here))
+          (subst (λ ds. AllZip (IsDeadlockReplay script run) ds (so.deadlocks ++ adds.replay ∷ [])) (sym (take_next found.deadlocks (n - length found.races) (deadlock_of (Deadlock picks keep)) here))
           (zip_push (IsDeadlockReplay script run) (take (n - length found.races) found.deadlocks) so.deadlocks (deadlock_of (Deadlock picks keep)) adds.replay so.of_deadlocks adds.is));
       written = adds.line ∙ ap (λ l. l ++ reached_line script.names number adds.replay) so.written
           ∙ sym (lines_more script.names 1 number (so.races ++ so.deadlocks) adds.replay (omega (arith, races, deadlocks, counted, past, length-append so.races so.deadlocks)))
