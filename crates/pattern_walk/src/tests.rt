@@ -10,7 +10,7 @@ use std::alloc::Global;
 use std::process::Abort;
 use std::test::Fail;
 use trace_index::Index;
-use trace_laws::{Builder, Event, Op, Trace};
+use trace_laws::{Builder, Deadlock, Event, Keep, Op, Trace};
 
 // The thread of a number.
 fn thread(rt: &impl Abort, number: u16) -> ThreadId
@@ -80,6 +80,18 @@ fn three_threads(rt: &impl Abort, alloc: Global) -> Trace {
     builder.finish(3)
 }
 
+// Tests the picks and the keep of what was found.
+fn test_found(rt: &impl Abort, found: &Option<(Deadlock, Keep)>, wanted: Option<(&[u32], &[u32])>) {
+    match (found, wanted) {
+        (Some((deadlock, keep)), Some((picks, counts))) => {
+            assert_eq!(rt; deadlock.picks(), picks);
+            assert_eq!(rt; keep.counts(), counts);
+        }
+        (None, None) => {}
+        _ => panic!(rt; "not as wanted"),
+    }
+}
+
 // Tests the first pattern of a trace: its classes, and the picks and the keep of its least deadlock.
 fn test_pattern(
     rt: &impl Abort,
@@ -97,14 +109,7 @@ fn test_pattern(
     assert_eq!(rt; pattern.classes(), classes_wanted);
     let mut cursor = Cursor::new(alloc, &index).expect(rt, "room");
     let found = check(alloc, pattern, &classes, &mut cursor).expect(rt, "room");
-    match (&found, wanted) {
-        (Some((deadlock, keep)), Some((picks, counts))) => {
-            assert_eq!(rt; deadlock.picks(), picks);
-            assert_eq!(rt; keep.counts(), counts);
-        }
-        (None, None) => {}
-        _ => panic!(rt; "not as wanted"),
-    }
+    test_found(rt, &found, wanted);
 }
 
 #[test]

@@ -52,12 +52,8 @@ fn are_ends_named(machine: &Machine<'_>, names: &Names) -> bool
     true
 }
 
-// Whether these are the lines after the threads made the steps, one after the other.
-fn ends_with(alloc: Global, script: &[u8], steps: &[u16], lines: &[u8]) -> Option<bool>
-    requires { length script.now < 2 ^ 32 }
-{
-    let script = Script::read(alloc, script).ok()?;
-    let mut machine = Machine::new(alloc, &script).ok()?;
+// Lets the threads make a step each, one after the other.
+fn step_all(machine: &mut Machine<'_>, steps: &[u16]) -> Option<()> {
     for number in steps {
         let thread = ThreadId::new(*number)?;
         if thread.value() >= machine.threads() {
@@ -65,12 +61,28 @@ fn ends_with(alloc: Global, script: &[u8], steps: &[u16], lines: &[u8]) -> Optio
         }
         machine.step(thread)?;
     }
-    if !are_ends_named(&machine, script.names()) {
+    Some(())
+}
+
+// The lines of the threads of a machine.
+fn ends_of(alloc: Global, machine: &Machine<'_>, names: &Names) -> Option<SureSink> {
+    if !are_ends_named(machine, names) {
         return None;
     }
     let mut sink = SureSink::new(alloc);
-    write_ends(alloc, &mut sink, &machine, script.names()).ok()?;
-    Some(sink.text() == lines)
+    write_ends(alloc, &mut sink, machine, names).ok()?;
+    Some(sink)
+}
+
+// Whether these are the lines after the threads made the steps.
+fn ends_with(alloc: Global, script: &[u8], steps: &[u16], lines: &[u8]) -> Option<bool>
+    requires { length script.now < 2 ^ 32 }
+{
+    let script = Script::read(alloc, script).ok()?;
+    let mut machine = Machine::new(alloc, &script).ok()?;
+    step_all(&mut machine, steps)?;
+    let ends = ends_of(alloc, &machine, script.names())?;
+    Some(ends.text() == lines)
 }
 
 #[test]

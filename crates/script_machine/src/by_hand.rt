@@ -55,20 +55,21 @@ fn runs_to_the_join(alloc: Global, script: &Script, first: ThreadId, second: Thr
     machine.state(first) == ThreadState::Ended
 }
 
+// Whether the next call of the thread stands at that line. It then goes on behind it, with what a read would read.
+fn passes(run: &mut ThreadRun<'_>, line: u32, read: u64) -> bool {
+    if run.next_op().is_none() || run.location() != line {
+        return false;
+    }
+    run.advance(read);
+    true
+}
+
 // Whether the second thread alone reads 5, takes the branch and locks.
 fn takes_the_branch(script: &Script, second: ThreadId) -> bool
     requires { second < length script.now.bodies }
 {
     let mut run = ThreadRun::new(script, second);
-    if run.next_op().is_none() || run.location() != 6 {
-        return false;
-    }
-    run.advance(5);
-    if run.next_op().is_none() || run.location() != 8 {
-        return false;
-    }
-    run.advance(0);
-    run.next_op().is_none()
+    passes(&mut run, 6, 5) && passes(&mut run, 8, 0) && run.next_op().is_none()
 }
 
 // Whether the first thread writes 5.

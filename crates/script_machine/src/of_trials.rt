@@ -4,8 +4,18 @@ ghost use Rattle.std.specs.Prelude.{◌<◌, ◌^◌, length};
 
 use crate::{Recording, RunFault, Script};
 use std::alloc::Global;
+use trace_laws::Trace;
 
-// The lone run of the other text taken as one of the first: its length, or the place that is no step.
+// The trace taken as a run of the script: its length, or the place that is no step.
+fn taken(alloc: Global, script: &Script, trace: &Trace) -> Option<Result<u32, u32>> {
+    match Recording::of(alloc, script, trace) {
+        Ok(recording) => Some(Ok(recording.trace().len())),
+        Err(RunFault::NotAStep(place)) => Some(Err(place)),
+        Err(RunFault::OutOfMemory) => None,
+    }
+}
+
+// The lone run of the other text taken as one of the first.
 fn taken_as(alloc: Global, text: &[u8], other: &[u8]) -> Option<Result<u32, u32>>
     requires text { length text.now < 2 ^ 32 }
     requires other { length other.now < 2 ^ 32 }
@@ -13,11 +23,7 @@ fn taken_as(alloc: Global, text: &[u8], other: &[u8]) -> Option<Result<u32, u32>
     let script = Script::read(alloc, text).ok()?;
     let recorded = Script::read(alloc, other).ok()?;
     let run = Recording::alone(alloc, &recorded).ok()?;
-    match Recording::of(alloc, &script, run.trace()) {
-        Ok(recording) => Some(Ok(recording.trace().len())),
-        Err(RunFault::NotAStep(place)) => Some(Err(place)),
-        Err(RunFault::OutOfMemory) => None,
-    }
+    taken(alloc, &script, run.trace())
 }
 
 #[test]

@@ -3,6 +3,7 @@
 use crate::{Script, ScriptError, ScriptKind};
 use sp_base::{LockId, MAX_INPUT, VarId};
 use std::alloc::{AllocError, Global};
+use trace_laws::Names;
 
 // What a script counts, or nothing where the text is none.
 #[derive(Clone, Copy, Debug)]
@@ -107,22 +108,34 @@ fn made_is_of_size(rt: &HostRuntime, text: Result<Vec<u8>, AllocError>, size: u3
     }
 }
 
+// Whether the lock of that number has this name.
+fn has_lock(names: &Names, number: u32, name: &[u8]) -> bool {
+    match LockId::new(number) {
+        Some(lock) => number < names.locks() && names.lock_name(lock) == name,
+        None => false,
+    }
+}
+
+// Whether the variable of that number has this name.
+fn has_variable(names: &Names, number: u32, name: &[u8]) -> bool {
+    match VarId::new(number) {
+        Some(variable) => number < names.vars() && names.var_name(variable) == name,
+        None => false,
+    }
+}
+
 // Whether the lock and the variable of that number have these names in the script of the text.
 fn has_names(rt: &HostRuntime, text: &[u8], number: u32, lock: &[u8], variable: &[u8]) -> bool {
     if text.len() > MAX_INPUT as usize {
         return false;
     }
-    let Ok(script) = Script::read(rt.alloc(), text) else {
-        return false;
-    };
-    let (Some(lock_id), Some(var_id)) = (LockId::new(number), VarId::new(number)) else {
-        return false;
-    };
-    let names = script.names();
-    if number >= names.locks() || number >= names.vars() {
-        return false;
+    match Script::read(rt.alloc(), text) {
+        Ok(script) => {
+            let names = script.names();
+            has_lock(names, number, lock) && has_variable(names, number, variable)
+        }
+        Err(_) => false,
     }
-    names.lock_name(lock_id) == lock && names.var_name(var_id) == variable
 }
 
 #[test]

@@ -2,11 +2,13 @@
 ghost use Rattle.std.specs.Prelude.{◌≡◌, false, IfOk};
 ghost use Rattle.std_text.specs.Refusal.{IsHolderGiven};
 ghost use Rattle.std_text.specs.Told.{IsHolderKnown};
+ghost use Rattle.std_text.specs.Writing.{IsCallNamed};
 
 use crate::{
     ReadFault, Reader, StdKind, computed_laws_are_the_laws, pieces_are_the_text, write_call,
     write_event, write_op, written_text_is_read,
 };
+use sp_base::{OutOfMemory, ThreadId};
 use std::alloc::{AllocError, Global};
 use std::test::Fail;
 use trace_laws::{Event, Names, Op, Trace};
@@ -466,18 +468,24 @@ fn names_and_lines_go_on(rt: HostRuntime) -> Result<(), Fail> {
     Ok(())
 }
 
+// The texts of a call, of the line of its event, and of its operation, one behind the other.
+fn written(alloc: Global, thread: ThreadId, op: Op, names: &Names) -> Result<Vec<u8>, OutOfMemory>
+    requires { IsCallNamed names.now thread op }
+{
+    let mut text = Vec::new(alloc);
+    write_call(alloc, thread, &op, names, &mut text)?;
+    let loc = 7;
+    write_event(alloc, &Event { thread, op, loc }, names, &mut text)?;
+    write_op(alloc, &op, names, &mut text)?;
+    Ok(text)
+}
+
 #[test]
 fn calls_and_lines_are_written(rt: HostRuntime) -> Result<(), Fail> {
-    let alloc = rt.alloc();
-    let mut names = Names::new(alloc)?;
+    let mut names = Names::new(rt.alloc())?;
     let thread = names.thread(b"T")?;
     let lock = names.lock(b"L")?;
-    let op = Op::Acquire(lock);
-    let mut text = Vec::new(alloc);
-    write_call(alloc, thread, &op, &names, &mut text)?;
-    let loc = 7;
-    write_event(alloc, &Event { thread, op, loc }, &names, &mut text)?;
-    write_op(alloc, &op, &names, &mut text)?;
+    let text = written(rt.alloc(), thread, Op::Acquire(lock), &names)?;
     assert_eq!(rt; text.as_slice(), b"T|acq(L)T|acq(L)|7\nacq(L)".as_slice());
     Ok(())
 }

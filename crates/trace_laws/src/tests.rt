@@ -69,13 +69,27 @@ fn findings_keep_what_they_are_given(rt: HostRuntime) -> Result<(), Fail> {
     Ok(())
 }
 
+// The number that the name of a thread gets.
+fn thread_number(names: &mut Names, name: &[u8]) -> Option<u16> {
+    Some(names.thread(name).ok()?.value())
+}
+
+// The number that the name of a lock gets.
+fn lock_number(names: &mut Names, name: &[u8]) -> Option<u32> {
+    Some(names.lock(name).ok()?.value())
+}
+
+// The number that the name of a variable gets.
+fn var_number(names: &mut Names, name: &[u8]) -> Option<u32> {
+    Some(names.var(name).ok()?.value())
+}
+
 #[test]
 fn a_name_keeps_its_number(rt: HostRuntime) -> Result<(), Fail> {
     let mut names = Names::new(rt.alloc())?;
-    let first = names.thread(b"T0")?;
-    let second = names.thread(b"T1")?;
-    assert_eq!(rt; (first.value(), second.value()), (0, 1));
-    assert_eq!(rt; names.thread(b"T0")?, first);
+    assert_eq!(rt; thread_number(&mut names, b"T0"), Some(0));
+    assert_eq!(rt; thread_number(&mut names, b"T1"), Some(1));
+    assert_eq!(rt; thread_number(&mut names, b"T0"), Some(0));
     assert_eq!(rt; names.threads(), 2);
     Ok(())
 }
@@ -83,24 +97,38 @@ fn a_name_keeps_its_number(rt: HostRuntime) -> Result<(), Fail> {
 #[test]
 fn each_kind_has_numbers_of_its_own(rt: HostRuntime) -> Result<(), Fail> {
     let mut names = Names::new(rt.alloc())?;
-    let thread = names.thread(b"n")?;
-    let lock = names.lock(b"n")?;
-    let var = names.var(b"n")?;
-    assert_eq!(rt; (thread.value(), lock.value(), var.value()), (0, 0, 0));
+    assert_eq!(rt; thread_number(&mut names, b"n"), Some(0));
+    assert_eq!(rt; lock_number(&mut names, b"n"), Some(0));
+    assert_eq!(rt; var_number(&mut names, b"n"), Some(0));
     assert_eq!(rt; (names.locks(), names.vars()), (1, 1));
     Ok(())
+}
+
+// Whether the number that the name of a thread gets has that name.
+fn thread_has_its_name(names: &mut Names, name: &[u8]) -> Option<bool> {
+    let thread = names.thread(name).ok()?;
+    Some(names.thread_name(thread) == name)
+}
+
+// Whether the number that the name of a lock gets has that name.
+fn lock_has_its_name(names: &mut Names, name: &[u8]) -> Option<bool> {
+    let lock = names.lock(name).ok()?;
+    Some(names.lock_name(lock) == name)
+}
+
+// Whether the number that the name of a variable gets has that name in a copy.
+fn copied_var_has_its_name(names: &mut Names, name: &[u8]) -> Option<bool> {
+    let var = names.var(name).ok()?;
+    let copy = names.copy().ok()?;
+    Some(copy.var_name(var) == name)
 }
 
 #[test]
 fn a_number_has_its_name(rt: HostRuntime) -> Result<(), Fail> {
     let mut names = Names::new(rt.alloc())?;
-    let thread = names.thread(b"T0")?;
-    assert_eq!(rt; names.thread_name(thread), b"T0".as_slice());
-    let lock = names.lock(b"L")?;
-    assert_eq!(rt; names.lock_name(lock), b"L".as_slice());
-    let var = names.var(b"x")?;
-    assert_eq!(rt; names.var_name(var), b"x".as_slice());
-    let copy = names.copy()?;
-    assert_eq!(rt; copy.var_name(var), b"x".as_slice());
+    assert_eq!(rt; thread_has_its_name(&mut names, b"T0"), Some(true));
+    assert_eq!(rt; thread_has_its_name(&mut names, b"T1"), Some(true));
+    assert_eq!(rt; lock_has_its_name(&mut names, b"L"), Some(true));
+    assert_eq!(rt; copied_var_has_its_name(&mut names, b"x"), Some(true));
     Ok(())
 }
