@@ -1,6 +1,6 @@
 //! Whether a pattern has a deadlock.
 
-ghost use Rattle.std.specs.Prelude.{ℕ, ◌≡◌, IfOk, IsTrue};
+ghost use Rattle.std.specs.Prelude.{◌≡◌, IfOk, IsTrue};
 ghost use Rattle.std.specs.Bool.{IsFalse};
 ghost use Rattle.trace_laws.specs.Closed.{AreOutside};
 ghost use Rattle.sp_closure.specs.Members.{has};

@@ -1,5 +1,5 @@
 // An instance of a pattern that moves on to later acquires.
-ghost use Rattle.std.specs.Prelude.{ℕ, ◌≡◌, ◌<◌, ◌≤◌, length, slice_get, slice_index, Some, Contains, IfNone, IfSome, IfOk, IsTrue, true, false};
+ghost use Rattle.std.specs.Prelude.{ℕ, ◌≡◌, ◌<◌, ◌≤◌, length, slice_index, Some, Contains, IfNone, IfSome, IfOk, IsTrue, true, false};
 ghost use Rattle.std.specs.Bool.{IsFalse};
 ghost use Rattle.trace_laws.specs.Closed.{IsClosureBefore, AreOutside};
 ghost use Rattle.sp_closure.specs.Members.{has};

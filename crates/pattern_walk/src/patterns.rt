@@ -1,6 +1,6 @@
 //! The patterns of a trace.
 
-ghost use Rattle.std.specs.Prelude.{◌≡◌, ◌<◌, ◌≤◌, ◌↔◌, length, map, slice_get, Some, IfOk, IsErrOf, IsTrue};
+ghost use Rattle.std.specs.Prelude.{◌≡◌, ◌<◌, ◌≤◌, ◌↔◌, length, slice_get, Some, IfOk, IsErrOf, IsTrue};
 ghost use Rattle.sp_base.specs.declared.limits.TheConstants.{MIN_SIZE, MAX_SIZE, MAX_PATTERNS};
 ghost use Rattle.pattern_walk.specs.Listed.{AreListed, HasMorePatterns};
 

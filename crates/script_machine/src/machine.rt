@@ -1,6 +1,6 @@
 //! The machine that runs a script.
 
-ghost use Rattle.std.specs.Prelude.{◌≡◌, ℕ, ◌<◌, ◌≤◌, ◌↔◌, length, Option, Some, None, IsSome, IfSome, IfNone, IfOk, IsTrue, not, ◌&&◌, true};
+ghost use Rattle.std.specs.Prelude.{◌≡◌, ◌<◌, ◌≤◌, ◌↔◌, length, Option, Some, None, IsSome, IfSome, IfNone, IfOk, IsTrue, not, ◌&&◌, true};
 ghost use Rattle.script_machine.specs.Machine.{next_call, call_at, stored_at, is_waiting, CanStep, IsRunning, IsEnded, OpInRange, StepOf, start};
 ghost use Rattle.script_machine.specs.Held.{meaning, is_empty, may_take, forked_list, owners_list, values_list, brought_list, IsIn, IsVariableIn, IsTaken};
 

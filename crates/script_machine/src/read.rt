@@ -1,6 +1,6 @@
 //! The first pass over a script text: its statements, or the fault of a line.
 
-ghost use Rattle.std.specs.Prelude.{◌≡◌, ℕ, ◌+◌, ◌^◌, ◌<◌, ◌≤◌, length, List, [], ◌∷◌, ◌++◌, map, Option, Some, None, Result, Err, IfOk, OnOk, option_to_list};
+ghost use Rattle.std.specs.Prelude.{◌≡◌, ◌+◌, ◌^◌, ◌<◌, length, ◌++◌, map, Some, None, Result, Err, IfOk, OnOk, option_to_list};
 ghost use Rattle.script_machine.specs.ScriptText.{lines_of, words_of, line_says, fault_of, statements_of, numbered_of, IsClean, FaultOnLine, tables_of};
 ghost use Rattle.script_machine.specs.Spoken.{numbered, grown_by};
 ghost use Rattle.script_machine.specs.declared.fault.ScriptFault.{ScriptFault as Fault};

@@ -1,6 +1,6 @@
 //! Recordings: finished runs.
 
-ghost use Rattle.std.specs.Prelude.{◌≡◌, ◌↔◌, ℕ, ◌<◌, [], ◌∷◌, ◌++◌, length, Err, IfOk, IfSome, IfNone, IsTrue};
+ghost use Rattle.std.specs.Prelude.{◌≡◌, ◌↔◌, ℕ, ◌<◌, [], ◌∷◌, ◌++◌, Err, IfOk, IfSome, IfNone, IsTrue};
 ghost use Rattle.trace_laws.specs.Locations.{DoTheSame};
 ghost use Rattle.script_machine.specs.Machine.{LegalRun, IsComplete};
 ghost use Rattle.script_machine.specs.Held.{meaning};

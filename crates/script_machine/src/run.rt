@@ -1,6 +1,6 @@
 //! Legal runs that grow.
 
-ghost use Rattle.std.specs.Prelude.{◌≡◌, ℕ, ◌<◌, ◌≤◌, [], ◌∷◌, ◌++◌, length, IfOk, IfSome, IfNone};
+ghost use Rattle.std.specs.Prelude.{◌≡◌, ◌<◌, ◌≤◌, [], ◌∷◌, ◌++◌, length, IfOk, IfSome, IfNone};
 ghost use Rattle.script_machine.specs.Machine.{StepOf, CanStep, start, size_of};
 ghost use Rattle.script_machine.specs.Held.{meaning};
 ghost use Rattle.script_machine.specs.Recorded.{IsRun, IsRecording};

@@ -1,6 +1,6 @@
 //! A script, read from its text.
 
-ghost use Rattle.std.specs.Prelude.{◌≡◌, ◌<◌, ◌≤◌, ◌^◌, length, All, Err, IfOk};
+ghost use Rattle.std.specs.Prelude.{◌≡◌, ◌<◌, ◌^◌, length, All, Err, IfOk};
 ghost use Rattle.script_machine.specs.ScriptText.{Scripts, FirstFault};
 ghost use Rattle.script_machine.specs.declared.fault.ScriptFault.{ScriptFault as Fault};
 ghost use Rattle.script_machine.specs.Machine.{body, is_forked, size_of, InRange};

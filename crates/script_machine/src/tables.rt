@@ -1,6 +1,6 @@
 //! What a reader of scripts knows of the lines so far.
 
-ghost use Rattle.std.specs.Prelude.{◌≡◌, true, not, cond, is_none, OnOk, IfOk, IfSome, Err, reverse, List, [], Option, Some, None};
+ghost use Rattle.std.specs.Prelude.{◌≡◌, true, not, cond, is_none, OnOk, IfOk, IfSome, Err, reverse, [], Option, Some, None};
 ghost use Rattle.script_machine.specs.ScriptText.{is_among, thread_name, statement_fault, tables_of, grown, with_name, or_else, fault_if, open_after, number_in, open_fault};
 ghost use Rattle.sp_base.specs.declared.limits.TheConstants.{MAX_THREADS, MAX_LOCKS, MAX_VARS};
 ghost use Rattle.script_machine.specs.Said.{said};

@@ -1,6 +1,6 @@
 //! The words of a script text.
 
-ghost use Rattle.std.specs.Prelude.{◌≡◌, ℕ, ◌<◌, ◌≤◌, not, ◌||◌, ◌==◌, length, take, drop, List, [], ◌∷◌, MatchOption};
+ghost use Rattle.std.specs.Prelude.{◌≡◌, ◌<◌, ◌≤◌, not, ◌||◌, ◌==◌, length, [], ◌∷◌, MatchOption};
 ghost use Rattle.std.specs.List.{prefix_len};
 ghost use Rattle.script_machine.specs.ScriptText.{is_blank, is_digit, is_name, words_of, number_of, name_in, number_in_words, no_more, with_ok, statement_of, write_of};
 ghost use Rattle.script_machine.specs.Said.{said};

@@ -1,6 +1,6 @@
 //! One thread of a script on its way.
 
-ghost use Rattle.std.specs.Prelude.{◌≡◌, ◌≢◌, ℕ, ◌+◌, ◌<◌, ◌≤◌, List, [], length, drop, slice_get, Some, None, IsNone, ◌↔◌, All};
+ghost use Rattle.std.specs.Prelude.{◌≡◌, ◌≢◌, ◌+◌, ◌<◌, [], length, drop, Some, None, IsNone, ◌↔◌, All};
 ghost use Rattle.script_machine.specs.Machine.{Local, IsSettled, IsAtWrite, InRange, settled, body, call_at, jump, moved, op_of, register_by, location_of, stored_at};
 
 use crate::{Instruction, Line, Script};

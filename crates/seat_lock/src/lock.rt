@@ -1,6 +1,6 @@
 //! The lock.
 
-ghost use Rattle.std.specs.Prelude.{◌≡◌, ◌≢◌, ℕ, ◌<◌, ◌+◌, None, Some, IfOk, All, vec_len, length, slice_get, [], ◌∷◌};
+ghost use Rattle.std.specs.Prelude.{◌≡◌, ℕ, ◌<◌, ◌+◌, None, Some, IfOk, All, vec_len, length, slice_get, []};
 ghost use Rattle.seat_lock.specs.Tallies.{IsOne, AreTallied};
 ghost use Rattle.seat_lock.specs.Views.{view};
 ghost use Rattle.seat_lock.specs.Rested.{rested};

@@ -1,6 +1,6 @@
 //! What no clause says: that the calls answer, on two threads at once.
 
-ghost use Rattle.std.specs.Prelude.{◌≡◌, ◌+◌, ◌<◌, ◌^◌, None, IfOk};
+ghost use Rattle.std.specs.Prelude.{◌≡◌, ◌+◌, ◌<◌, None, IfOk};
 ghost use Rattle.seat_lock.specs.Shown.{IsSeatWith};
 
 use crate::{LockSeat, SeatLock, Tallied};

@@ -1,6 +1,6 @@
 // Places that a set needs.
-ghost use Rattle.std.specs.Prelude.{ℕ, ◌≡◌, ◌<◌, length, Some, slice_get, IfSome};
-ghost use Rattle.trace_laws.specs.Trace.{op_at, Before, IsReleaseOf};
+ghost use Rattle.std.specs.Prelude.{◌≡◌, ◌<◌, length, Some, slice_get};
+ghost use Rattle.trace_laws.specs.Trace.{op_at, Before};
 ghost use Rattle.trace_laws.specs.Traces.{NamesBelow};
 ghost use Rattle.sp_closure.specs.Needs.{IsWriterOfRead};
 ghost use Rattle.sp_closure.specs.Cuts.{Admits};

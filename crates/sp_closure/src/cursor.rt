@@ -1,6 +1,6 @@
 //! A closed set of places that grows.
 
-ghost use Rattle.std.specs.Prelude.{ℕ, ◌≡◌, ◌<◌, ◌⊎◌, IsTrue, IfOk, length};
+ghost use Rattle.std.specs.Prelude.{◌≡◌, ◌<◌, ◌⊎◌, IsTrue, IfOk, length};
 ghost use Rattle.trace_laws.specs.Trace.{Before};
 ghost use Rattle.trace_laws.specs.Closed.{IsClosure};
 ghost use Rattle.sp_closure.specs.Members.{has, AreCounts, IsEmpty};

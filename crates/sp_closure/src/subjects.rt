@@ -1,5 +1,5 @@
 // What events are about.
-ghost use Rattle.std.specs.Prelude.{◌≡◌, ◌<◌, ◌≤◌, length, IfSome};
+ghost use Rattle.std.specs.Prelude.{◌≡◌, ◌<◌, IfSome};
 ghost use Rattle.trace_laws.specs.Traces.{IsTrace};
 ghost use Rattle.sp_closure.specs.Subjects.{lock_of, forked_of, number_of, AreBelow};
 

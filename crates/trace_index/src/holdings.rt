@@ -1,6 +1,6 @@
 // The locks that threads hold.
 ghost use Rattle.std.specs.Prelude.{◌<◌, ◌+◌, length, IfOk, OnOk};
-ghost use Rattle.trace_index.specs.HeldSets.{AreHoldings, AreHeldBy};
+ghost use Rattle.trace_index.specs.HeldSets.{AreHoldings};
 
 use crate::lock_sets;
 use sp_base::{MAX_THREADS, OutOfMemory, ThreadId};

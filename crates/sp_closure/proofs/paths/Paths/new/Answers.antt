@@ -1,5 +1,4 @@
-use Rattle.std.proofs.Common.{sym, subst, ◌∙◌, arith}
-use Rattle.trace_laws.specs.Traces.{History, IsTrace}
+use Rattle.std.proofs.Common.{sym, ◌∙◌, arith}
 use Rattle.sp_closure.proofs.About.{threads_below, forked_below}
 use Rattle.sp_closure.proofs.paths.Paths.new.Goals as goal
 
