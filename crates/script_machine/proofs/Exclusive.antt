@@ -14,11 +14,11 @@ past (x ∷ xs) zero h = absurd (omega arith)
 past (x ∷ xs) (suc k) h = past xs k (omega arith)
 
 -- no fault stands past the last line
-no_fault_past : (lines : List (List ℕ)) (k : ℕ) → length lines ≤ k → fault_at lines k ≡ None
+pub no_fault_past : (lines : List (List ℕ)) (k : ℕ) → length lines ≤ k → fault_at lines k ≡ None
 no_fault_past lines k h = ap (λ o. fault_of (k + 1) (tables_of (statements_of (take k lines))) (line_says (words_of (unwrap_or o [])))) (past lines k h)
 
 -- statements have one script at most
-same_script : (statements : List Numbered) (ts us : List ThreadText) (a b : Script) → Spells statements ts a → Spells statements us b → (ts ≡ us) × (a ≡ b)
+pub same_script : (statements : List Numbered) (ts us : List ThreadText) (a b : Script) → Spells statements ts a → Spells statements us b → (ts ≡ us) × (a ≡ b)
 same_script statements ts us a b x y =
     let threads = threads_unique ts us (sym x.spelled ∙ y.spelled) in
     let bodies = x.bodies ∙ ap (map (λ t. flattened (tables_of statements) t.body)) threads ∙ sym y.bodies in

@@ -23,6 +23,7 @@ pub mod Unique
 pub mod ThreadsRead
 pub mod Folded
 pub mod Exclusive
+pub mod OneFault
 pub mod OneFork
 pub mod Formed
 pub mod Determined

@@ -26,6 +26,10 @@ abbrev pub ExclusiveLaw : Type 0
 ExclusiveLaw = (text : List ℕ) (script : Script) → Scripts text script
     → ((other : Script) → Scripts text other → script ≡ other) × ((fault : Fault) → FirstFault text fault → ⊥)
 
+-- a text has one first fault at most
+abbrev pub OneFaultLaw : Type 0
+OneFaultLaw = (text : List ℕ) (fault other : Fault) → FirstFault text fault → FirstFault text other → fault ≡ other
+
 -- A trace that does the same as a legal run has no first place that is no step, and two legal runs that do the same as one
 -- trace are one.
 abbrev pub OfLaw : Type 0

@@ -1,6 +1,6 @@
 //! The laws of the machine, over all runs of all scripts.
 
-ghost use Rattle.script_machine.specs.Laws.{SizeLaw, LawfulLaw, DeterminedLaw, ExclusiveLaw, OfLaw};
+ghost use Rattle.script_machine.specs.Laws.{SizeLaw, LawfulLaw, DeterminedLaw, ExclusiveLaw, OneFaultLaw, OfLaw};
 
 /// A legal run has at most as many events as the script has instructions.
 pub fn size_law()
@@ -20,6 +20,11 @@ pub fn determined_law()
 /// A text has one script at most, and where it has one it has no fault.
 pub fn exclusive_law()
     ensures { ExclusiveLaw }
+{}
+
+/// A text has one first fault at most: so the fault that a reading answers is decided by the text.
+pub fn one_fault_law()
+    ensures { OneFaultLaw }
 {}
 
 /// A trace that does the same as a legal run has no first place that is no step, and no other run does the same.

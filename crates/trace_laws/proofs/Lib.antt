@@ -15,3 +15,5 @@ pub mod Counting
 pub mod NameLemmas
 pub mod Locations
 pub mod LocationsFound
+pub mod Preceding
+pub mod Determined

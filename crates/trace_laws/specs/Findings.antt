@@ -84,3 +84,7 @@ pub record AreFindings (trace : List Event) (threads size : ℕ) (judge : Judge)
   pub pattern_order : AllPairs ComesBefore patterns
   pub members : (p : List Class) → Contains patterns p ↔ (IsPattern trace p × (length p ≤ size) × ((picks : List ℕ) × DeadlockBy judge p picks))
   pub deadlocks : AllZip (IsFoundDeadlock trace threads judge) patterns found.deadlocks
+
+-- what is found in a trace by a judge determines its list
+abbrev pub FindingsAreDetermined : (List Event → Judge) → Type 0
+FindingsAreDetermined judged_by = (trace : List Event) (threads size : ℕ) (one other : Found) → AreFindings trace threads size (judged_by trace) one → AreFindings trace threads size (judged_by trace) other → one ≡ other

@@ -68,6 +68,13 @@ impl Findings {
         (self.races.len() + self.deadlocks.len()) as u32
     }
 
+    /// How many of the findings are races. They have the lowest numbers.
+    pub fn races(&self) -> u32
+        ensures { result ≡ length self.now.races }
+    {
+        self.races.len() as u32
+    }
+
     /// The finding of a number, which is below `len`. The races come first.
     pub fn get(&self, number: u32) -> &Finding
         requires { number < length self.now.races + length self.now.deadlocks }

@@ -1,5 +1,5 @@
-//! The laws that tie closed sets to reorderings, and that locations do not count, each proved as the contract of a
-//! function that does nothing.
+//! The laws that tie closed sets to reorderings, that what is found determines its list, and that locations do not count,
+//! each proved as the contract of a function that does nothing.
 //!
 //! A set of places is closed where it holds every place that comes before a member in program order, the writer of
 //! each read in it, and the release of an acquire in it whenever a later acquire of the same lock is in it too. Closed
@@ -7,7 +7,8 @@
 //! patterns of Tunç, Mathur, Pavlogiannis and Viswanathan (PLDI 2023); forks and joins are this project's own.
 
 ghost use Rattle.trace_laws.specs.Trace.{Lawful};
-ghost use Rattle.trace_laws.specs.Closed.{ClosedSetsAreReorderings, ReorderingsAreClosed, EnabledOutsideClosure, RacesOutsideClosure, NeededAreTheClosure, JudgesAgree, LeastDeadlockExists};
+ghost use Rattle.trace_laws.specs.Closed.{ClosedSetsAreReorderings, ReorderingsAreClosed, EnabledOutsideClosure, RacesOutsideClosure, NeededAreTheClosure, JudgesAgree, LeastDeadlockExists, by_closure};
+ghost use Rattle.trace_laws.specs.Findings.{FindingsAreDetermined, by_reorderings};
 ghost use Rattle.trace_laws.specs.Locations.{LocationsDoNotCount};
 
 use crate::Event;
@@ -18,9 +19,8 @@ pub fn closed_sets_are_reorderings(trace: &[Event])
     ensures { ClosedSetsAreReorderings trace.now }
 {}
 
-/// The places of a sync-preserving correct reordering are a closed set (POPL 2021).
+/// The places of a sync-preserving correct reordering are a closed set (POPL 2021). The trace need not be lawful.
 pub fn reorderings_are_closed(trace: &[Event])
-    requires { Lawful trace.now }
     ensures { ReorderingsAreClosed trace.now }
 {}
 
@@ -48,6 +48,17 @@ pub fn judges_agree(trace: &[Event])
 pub fn least_deadlock_exists(trace: &[Event])
     requires { Lawful trace.now }
     ensures { LeastDeadlockExists trace.now }
+{}
+
+/// What is found in a trace determines its list: two lists of what is found in one trace, for one number of threads and
+/// up to one size of patterns, are equal, judged by all sync-preserving correct reorderings and judged by least closed
+/// sets. The races, the deadlocks, their keeps and their order are the same.
+///
+/// So two searches that both answer what is found answer the same, however they share the work: a report is the same for
+/// every number of workers.
+pub fn findings_are_determined()
+    ensures reorderings { FindingsAreDetermined by_reorderings }
+    ensures closures { FindingsAreDetermined by_closure }
 {}
 
 /// What is found in a trace does not depend on its locations: two traces whose events have the same threads and
