@@ -8,6 +8,7 @@ mod limits;
 mod outside;
 mod sinks;
 mod sources;
+mod steps;
 mod streams;
 #[cfg(test)]
 mod tests;
@@ -22,5 +23,6 @@ pub use limits::{
 pub use outside::{Failed, OutOfMemory, Sink, Source, WriteFault};
 pub use sinks::{MemSink, SureSink};
 pub use sources::{MemSource, SureSource};
+pub use steps::Steps;
 pub use streams::{StdSink, StdSource};
 pub use writing::write_all;

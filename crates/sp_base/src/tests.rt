@@ -2,8 +2,10 @@
 
 use crate::{
     Failed, Gate, LockId, MAX_LOCKS, MAX_THREADS, MAX_VARS, MemSink, MemSource, OpenGate, Sink,
-    Source, StdSink, StdSource, SureSink, SureSource, ThreadId, VarId, WriteFault, write_all,
+    Source, StdSink, StdSource, Steps, SureSink, SureSource, ThreadId, VarId, WriteFault,
+    write_all,
 };
+use std::marker::Brand;
 use std::test::Fail;
 
 #[test]
@@ -74,5 +76,13 @@ fn the_open_gate_holds_nobody_back() -> Result<(), Fail> {
     OpenGate.before(thread, 0);
     OpenGate.inside(thread, 0);
     OpenGate.job(0);
+    Ok(())
+}
+
+#[test]
+fn steps_take_no_bytes(rt: HostRuntime) -> Result<(), Fail> {
+    let mut steps = Steps::<Brand>::new();
+    steps.tick();
+    assert_eq!(rt; size_of::<Steps<Brand>>(), 0);
     Ok(())
 }
