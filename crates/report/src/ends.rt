@@ -2,7 +2,7 @@
 
 ghost use Rattle.std.specs.Prelude.{◌≡◌, ◌<◌, ◌++◌, IfOk, IfSome, OnOk, codes, length};
 ghost use Rattle.sp_base.specs.Causes.{HasWriteCause};
-ghost use Rattle.sp_base.specs.Moves.{Gained, Writes};
+ghost use Rattle.sp_base.specs.Moves.{Gained, IsWritten};
 ghost use Rattle.script_machine.specs.Held.{meaning};
 ghost use Rattle.script_machine.specs.Machine.{IsRunning, next_call};
 ghost use Rattle.std_text.specs.Writing.{IsOperandNamed, name_at};
@@ -109,7 +109,7 @@ pub fn write_ends<K: Sink>(
     names: &Names,
 ) -> Result<(), WriteFault>
     requires { AreEndsNamed names.now machine.now.script (meaning machine.now) }
-    ensures text { Gained (K.text sink.old) (K.text sink.new) (Writes result (ends_text names.now machine.now.script (meaning machine.now))) }
+    ensures text { Gained (K.text sink.old) (K.text sink.new) (IsWritten result (ends_text names.now machine.now.script (meaning machine.now))) }
     ensures cause { HasWriteCause (K.faults sink.old) (K.faults sink.new) result }
 {
     let Ok(text) = lines_of_ends(alloc, machine, names) else {

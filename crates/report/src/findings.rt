@@ -2,7 +2,7 @@
 
 ghost use Rattle.std.specs.Prelude.{◌≡◌, IfOk, length, string_bytes};
 ghost use Rattle.sp_base.specs.Causes.{HasWriteCause};
-ghost use Rattle.sp_base.specs.Moves.{Gained, Writes};
+ghost use Rattle.sp_base.specs.Moves.{Gained, IsWritten};
 ghost use Rattle.report.specs.Reports.{AreWithin, finding_lines, report_text};
 
 use crate::lines::{last_line, line_of_finding};
@@ -66,7 +66,7 @@ pub fn write_report<K: Sink>(
     findings: &Findings,
 ) -> Result<(), WriteFault>
     requires { AreWithin trace.now.events findings.now }
-    ensures text { Gained (K.text sink.old) (K.text sink.new) (Writes result (report_text trace.now.events findings.now)) }
+    ensures text { Gained (K.text sink.old) (K.text sink.new) (IsWritten result (report_text trace.now.events findings.now)) }
     ensures cause { HasWriteCause (K.faults sink.old) (K.faults sink.new) result }
 {
     let Ok(text) = report_of(alloc, trace, findings) else {

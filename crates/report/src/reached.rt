@@ -3,7 +3,7 @@
 ghost use Rattle.std.specs.Prelude.{◌≡◌, ◌<◌, ◌++◌, IfOk, OnOk, codes, length, string_bytes};
 ghost use Rattle.std.specs.Fmt.{decimal};
 ghost use Rattle.sp_base.specs.Causes.{HasWriteCause};
-ghost use Rattle.sp_base.specs.Moves.{Gained, Writes};
+ghost use Rattle.sp_base.specs.Moves.{Gained, IsWritten};
 ghost use Rattle.script_machine.specs.Held.{meaning};
 ghost use Rattle.script_machine.specs.Machine.{IsRunning};
 ghost use Rattle.report.specs.ReachedLines.{AreNextNamed, IsNextNamed, call_after_space, closing_reached, reached_line};
@@ -88,7 +88,7 @@ pub fn write_reached<K: Sink>(
     names: &Names,
 ) -> Result<(), WriteFault>
     requires { AreNextNamed names.now reached.now }
-    ensures text { Gained (K.text sink.old) (K.text sink.new) (Writes result (reached_line names.now number reached.now)) }
+    ensures text { Gained (K.text sink.old) (K.text sink.new) (IsWritten result (reached_line names.now number reached.now)) }
     ensures cause { HasWriteCause (K.faults sink.old) (K.faults sink.new) result }
 {
     let Ok(line) = line_of_reached(alloc, number, reached, names) else {
@@ -106,7 +106,7 @@ pub fn write_reached_count<K: Sink>(
     sink: &mut K,
     count: u32,
 ) -> Result<(), WriteFault>
-    ensures text { Gained (K.text sink.old) (K.text sink.new) (Writes result (closing_reached count)) }
+    ensures text { Gained (K.text sink.old) (K.text sink.new) (IsWritten result (closing_reached count)) }
     ensures cause { HasWriteCause (K.faults sink.old) (K.faults sink.new) result }
 {
     let Ok(line) = line_of_count(alloc, count) else {

@@ -2,7 +2,7 @@
 
 ghost use Rattle.std.specs.Prelude.{◌≡◌, IfOk};
 ghost use Rattle.sp_base.specs.Causes.{HasWriteCause};
-ghost use Rattle.sp_base.specs.Moves.{Gained, Writes};
+ghost use Rattle.sp_base.specs.Moves.{Gained, IsWritten};
 ghost use Rattle.std_text.specs.Writing.{AreNamed, trace_text};
 
 use sp_base::{OutOfMemory, Sink, WriteFault, write_all};
@@ -35,7 +35,7 @@ pub fn write_trace<K: Sink>(
     names: &Names,
 ) -> Result<(), WriteFault>
     requires { AreNamed names.now trace.now.events }
-    ensures text { Gained (K.text sink.old) (K.text sink.new) (Writes result (trace_text names.now trace.now.events)) }
+    ensures text { Gained (K.text sink.old) (K.text sink.new) (IsWritten result (trace_text names.now trace.now.events)) }
     ensures cause { HasWriteCause (K.faults sink.old) (K.faults sink.new) result }
 {
     let Ok(text) = event_lines(alloc, trace, names) else {

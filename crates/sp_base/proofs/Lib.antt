@@ -1,2 +1,4 @@
 pub mod Pieces
 pub mod Written
+pub mod Numbers
+pub mod Items

@@ -1,3 +1,4 @@
 pub mod Causes
 pub mod Moves
 pub mod Memory
+pub mod Digits

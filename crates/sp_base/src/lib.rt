@@ -1,7 +1,10 @@
-//! What every crate stands on: numbers of threads, locks and variables, the limits, and the traits through which
-//! the product meets the outside.
+//! What every crate stands on: numbers of threads, locks and variables, the limits, numbers as digits, and the traits
+//! through which the product meets the outside. It promises that a fault of a source or a sink is answered only where the
+//! object's count of faults rose, and that a text is written whole, or at a fault a front of it. It stands on the standard
+//! library alone, and knows no trace and no script.
 #![tactic(auto)]
 
+mod digits;
 mod gate;
 mod ids;
 mod limits;
@@ -14,6 +17,7 @@ mod streams;
 mod tests;
 mod writing;
 
+pub use digits::read_number;
 pub use gate::{Gate, OpenGate};
 pub use ids::{LockId, ThreadId, VarId};
 pub use limits::{

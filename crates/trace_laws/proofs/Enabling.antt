@@ -5,12 +5,11 @@ use Rattle.std.proofs.lemmas.Bool.Decides.{eqb_tells}
 use Rattle.std.proofs.lemmas.Option.{slice_get_within}
 use Rattle.std.proofs.lemmas.List.Elements.{Contains-push, Contains-push_cases, Contains-append_left}
 use Rattle.trace_laws.specs.Event.{Event}
-use Rattle.trace_laws.specs.declared.event.Op.TheVariants.{Read, Write}
 use Rattle.trace_laws.specs.Trace.{Lawful}
-use Rattle.trace_laws.specs.Reordering.{Rises, Accesses, Conflict, LeavesEnabled, CanLeave, IsNeeded}
+use Rattle.trace_laws.specs.Reordering.{Rises, Conflict, LeavesEnabled, CanLeave, IsNeeded}
 use Rattle.trace_laws.specs.Findings.{Races}
 use Rattle.trace_laws.specs.Closed.{ClosedSet, HoldsAll, ListsInOrder, BeforeAny, IsClosureBefore, AreOutside, EnabledOutsideClosure, RacesOutsideClosure, NeededAreTheClosure}
-use Rattle.trace_laws.proofs.Places.{contains_at, before_less, three_way, within_from_op, false_unless, contains_head, contains_tail, contains_cases, contains_none, slice_get-append_left, slice_get-append_seam}
+use Rattle.trace_laws.proofs.Places.{contains_at, before_less, three_way, access_within, false_unless, contains_head, contains_tail, contains_cases, contains_none, slice_get-append_left, slice_get-append_seam}
 use Rattle.trace_laws.proofs.ClosedSets.{closed_sets_are_reorderings_lem, reorderings_are_closed_lem}
 
 -- whether a place is in a list
@@ -155,11 +154,6 @@ enabled_outside_closure_lem trace lawful picks set within closure = (only, if)
 
     if : AreOutside picks set → CanLeave trace picks
     if outside = record { places = members_below (length trace) set; leaves = closure_leaves trace lawful picks set within closure outside }
-
--- an access is a place of the trace
-access_within : (trace : List Event) (e x : ℕ) → Accesses trace e x → e < length trace
-access_within trace e x (inl h) = within_from_op trace e (Read x) h
-access_within trace e x (inr h) = within_from_op trace e (Write x) h
 
 -- both places of a conflict are of the trace
 pub conflict_within : (trace : List Event) (e1 e2 : ℕ) → Conflict trace e1 e2 → (e : ℕ) → Contains (e1 ∷ e2 ∷ []) e → e < length trace

@@ -47,7 +47,7 @@ meet_instance (c ∷ cs) (p ∷ ps) (q ∷ qs) h k = (go (lesser p q), meet_inst
     go (inr x) = subst (Picked c) (sym x.0) k.0
 
 -- a place that is m, or that m comes before
-abbrev AtOrAfter : List Event → ℕ → ℕ → Type 0
+abbrev pub AtOrAfter : List Event → ℕ → ℕ → Type 0
 AtOrAfter trace m p = (m ≡ p) ⊎ Before trace m p
 
 -- two picks of one class, the first at most the second
@@ -105,7 +105,7 @@ meet_below trace (d ∷ ds) (p ∷ ps) (q ∷ qs) are h k m c = go (meet_below t
     go rest (inr later) = further (rest later)
 
 -- the closure before picks that are at or before others is in the closure before those
-closure_grows : (trace : List Event) (ms ps : List ℕ) (set other : ℕ → Bool) → ((m : ℕ) → Contains ms m → (p : ℕ) × Contains ps p × AtOrAfter trace m p) → IsClosureBefore trace ms set → IsClosureBefore trace ps other → (i : ℕ) → IsTrue (set i) → IsTrue (other i)
+pub closure_grows : (trace : List Event) (ms ps : List ℕ) (set other : ℕ → Bool) → ((m : ℕ) → Contains ms m → (p : ℕ) × Contains ps p × AtOrAfter trace m p) → IsClosureBefore trace ms set → IsClosureBefore trace ps other → (i : ℕ) → IsTrue (set i) → IsTrue (other i)
 closure_grows trace ms ps set other under small large i member = small.least other large.closed all i member
   where
     place : (k m p : ℕ) → Before trace k m → Contains ps p → AtOrAfter trace m p → IsTrue (other k)

@@ -15,15 +15,6 @@ use Rattle.trace_laws.proofs.Deciding.{dec_and, dec_or, dec_some, dec_op, dec_be
 abbrev pub with_place : ℕ → (ℕ → Bool) → ℕ → Bool
 with_place c set i = eqb c i || set i
 
--- the place is in the set with it
-with_place_itself : (c : ℕ) (set : ℕ → Bool) → IsTrue (with_place c set c)
-with_place_itself c set = go (eqb c c) (eqb_tells c c)
-  where
-    go : (b : Bool) → ((b ≡ true) × (c ≡ c)) ⊎ ((b ≡ false) × (c ≢ c)) → IsTrue (b || set c)
-    go true h = refl
-    go false (inl h) = absurd cc
-    go false (inr h) = absurd (h.1 refl)
-
 -- what was in the set stays in it
 with_place_old : (c : ℕ) (set : ℕ → Bool) (i : ℕ) → IsTrue (set i) → IsTrue (with_place c set i)
 with_place_old c set i h = go (eqb c i)

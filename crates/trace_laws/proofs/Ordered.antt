@@ -1,9 +1,9 @@
 -- Lists in a strict order.
-use Rattle.std.proofs.Common.{◌≡◌, ℕ, zero, suc, ◌<◌, List, [], ◌∷◌, ◌⊎◌, inl, inr, refl, sym, subst, arith}
+use Rattle.std.proofs.Common.{◌≡◌, ℕ, zero, suc, ◌<◌, ◌≤◌, List, [], ◌∷◌, length, get_or, ◌⊎◌, inl, inr, refl, sym, subst, arith}
 use Rattle.std.specs.Prelude.{Contains, AllPairs}
 use Rattle.std.proofs.lemmas.Option.{slice_get-get_or}
 use Rattle.trace_laws.specs.Reordering.{Rises}
-use Rattle.trace_laws.proofs.Places.{contains_head, contains_tail, contains_cases, contains_none}
+use Rattle.trace_laws.proofs.Places.{three_way, contains_head, contains_tail, contains_cases, contains_none}
 
 -- an order in which of two elements not each stands before the other
 module _ {X : Type 0} (R : X → X → Type 0) (strict : (x y : X) → R x y → R y x → ⊥) where
@@ -53,6 +53,15 @@ module _ {X : Type 0} (R : X → X → Type 0) (strict : (x y : X) → R x y →
 -- a list that rises is in the order of numbers
 rises_ordered : (xs : List ℕ) → Rises xs → AllPairs (λ a b. a < b) xs
 rises_ordered xs rises i j d less within = rises i j _ _ less (slice_get-get_or xs i d (omega arith)) (slice_get-get_or xs j d within)
+
+-- a list that rises does not fall
+pub rising : (xs : List ℕ) → Rises xs → (i j : ℕ) → i ≤ j → j < length xs → get_or xs i 0 ≤ get_or xs j 0
+rising xs rises i j le within = go (three_way i j)
+  where
+    go : (i < j) ⊎ ((i ≡ j) ⊎ (j < i)) → get_or xs i 0 ≤ get_or xs j 0
+    go (inl less) = let up = rises_ordered xs rises i j 0 less within in omega arith
+    go (inr (inl same)) = subst (λ (k : ℕ). get_or xs i 0 ≤ get_or xs k 0) same (omega arith)
+    go (inr (inr more)) = absurd (omega arith)
 
 -- lists that rise and have the same elements are equal
 pub rising_unique : (xs ys : List ℕ) → Rises xs → Rises ys → ((p : ℕ) → Contains xs p → Contains ys p) → ((p : ℕ) → Contains ys p → Contains xs p) → xs ≡ ys

@@ -5,9 +5,9 @@ use Rattle.std.specs.Option.{option_map}
 use Rattle.std.proofs.lemmas.Option.{slice_get_within, get_or_from_slice_get, slice_get-get_or}
 use Rattle.trace_laws.specs.Event.{Event}
 use Rattle.trace_laws.specs.declared.event.Op.{Op}
-use Rattle.trace_laws.specs.declared.event.Op.TheVariants.{Join}
+use Rattle.trace_laws.specs.declared.event.Op.TheVariants.{Read, Write, Join}
 use Rattle.trace_laws.specs.Trace.{thread_at, op_at, Before}
-use Rattle.trace_laws.specs.Reordering.{Earlier, AreDistinct}
+use Rattle.trace_laws.specs.Reordering.{Earlier, AreDistinct, Accesses}
 use Rattle.trace_laws.specs.Closed.{ListsInOrder}
 
 -- an element stands at an index
@@ -135,3 +135,8 @@ before_within trace i j (Before.same_thread t h a b) = within_from_thread trace 
 before_within trace i j (Before.fork_event t h a b) = within_from_thread trace j t b
 before_within trace i j (Before.event_join t h a b) = within_from_op trace j (Join t) b
 before_within trace i j (Before.fork_join t h a b) = within_from_op trace j (Join t) b
+
+-- an access is a place of the trace
+pub access_within : (trace : List Event) (e x : ℕ) → Accesses trace e x → e < length trace
+access_within trace e x (inl h) = within_from_op trace e (Read x) h
+access_within trace e x (inr h) = within_from_op trace e (Write x) h

@@ -24,7 +24,7 @@ pub record Tracks (trace : List Event) (owners : List (Option ℕ)) (joined fork
   pub starts : (u : ℕ) → u < MAX_THREADS → (slice_get started u ≡ Some true) ↔ HasStarted trace (length trace) u
 
 -- the events are lawful, there is room for the rest without more memory, and the tables say what the events did
-pub record IsSound (b : Inside) : Type 0 where
+pub record IsUpToDate (b : Inside) : Type 0 where
   pub lawful : Lawful b.events.items
   pub within : length b.events.items ≤ b.capacity
   pub limit : b.capacity ≤ MAX_EVENTS

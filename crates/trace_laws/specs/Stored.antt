@@ -3,7 +3,7 @@ use Rattle.std.specs.Prelude.{◌≡◌, ◌≤◌, ◌+◌, ◌-◌, ℕ, [], �
 use Rattle.trace_laws.specs.declared.finding.Finding.{Finding}
 use Rattle.trace_laws.specs.declared.finding.Finding.TheVariants.{Race, Deadlock}
 use Rattle.trace_laws.specs.declared.findings.Findings.TheInside.{Inside}
-use Rattle.trace_laws.specs.declared.findings.TheConstants.{MAX_FINDINGS}
+use Rattle.trace_laws.specs.declared.findings.TheConstants.{MAX_LISTED}
 use Rattle.trace_laws.specs.Findings.{Found, FoundRace, FoundDeadlock}
 
 -- a finding that is a race, as a race with its keep
@@ -34,7 +34,7 @@ found_in f = record { races = map race_of f.races.items; deadlocks = map deadloc
 pub record AreSorted (f : Inside) : Type 0 where
   pub races : All IsRace f.races.items
   pub deadlocks : All IsDeadlock f.deadlocks.items
-  pub few : length f.races.items + length f.deadlocks.items ≤ MAX_FINDINGS
+  pub few : length f.races.items + length f.deadlocks.items ≤ MAX_LISTED
 
 -- the finding became the last race or the last deadlock
 abbrev pub Adds : Found → Finding → Found → Type 0

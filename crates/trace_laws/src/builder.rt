@@ -61,11 +61,11 @@ impl Model for Builder {
 
     ghost Value = { Built };
 
-    ghost use Rattle.trace_laws.specs.Building.{built, IsSound};
+    ghost use Rattle.trace_laws.specs.Building.{built, IsUpToDate};
 
     ghost view = { built };
 
-    ghost invariant = { IsSound };
+    ghost invariant = { IsUpToDate };
 }
 
 impl Builder {

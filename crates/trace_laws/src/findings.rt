@@ -8,8 +8,8 @@ use sp_base::OutOfMemory;
 use std::alloc::Global;
 use std::marker::Model;
 
-/// The most findings that are kept.
-const MAX_FINDINGS: u32 = u32::MAX;
+/// The most findings that a list has, so that each has a number.
+const MAX_LISTED: u32 = u32::MAX;
 
 /// What is found in a trace: races, and then deadlocks.
 ///
@@ -47,7 +47,7 @@ impl Findings {
 
     /// Adds a finding as the last race or as the last deadlock. Without memory nothing changes.
     pub fn push(&mut self, finding: Finding) -> Result<(), OutOfMemory>
-        requires few { length self.old.races + length self.old.deadlocks < MAX_FINDINGS }
+        requires few { length self.old.races + length self.old.deadlocks < MAX_LISTED }
         ensures ok { OnOk result (Adds self.old finding self.new) }
         ensures err { OnErr result (self.new ≡ self.old) }
     {

@@ -1,4 +1,6 @@
-//! Traces of lock events: what is lawful, what a trace predicts, and the numbers of names.
+//! Traces of lock events: what is lawful, what a trace predicts, and names and their numbers. It promises that a trace is
+//! lawful, and proves what holds of all traces (`laws`). It stands on `sp_base`, and knows no text, no search and no
+//! thread that runs.
 //!
 //! The definitions of races are those of Mathur, Pavlogiannis and Viswanathan, "Optimal Prediction of
 //! Synchronization-Preserving Races" (POPL 2021), and those of deadlocks are of Tunç, Mathur, Pavlogiannis and
@@ -19,5 +21,5 @@ pub use builder::{Builder, LawFault};
 pub use event::{Event, Op};
 pub use finding::{Deadlock, Finding, Keep, Race};
 pub use findings::Findings;
-pub use names::{NameFault, Names};
+pub use names::{NameFault, Names, is_name};
 pub use trace::Trace;

@@ -1,13 +1,33 @@
-//! Numbers of names, given in the order in which the names first come.
+//! Names, and their numbers, given in the order in which the names first come.
 
 ghost use Rattle.std.specs.Prelude.{◌≡◌, ◌<◌, ◌≤◌, ◌↔◌, ℕ, false, [], length, slice_get, Some, IfOk, OnOk, OnErr, IsErrOf};
-ghost use Rattle.trace_laws.specs.Names.{is_numbered, number_of, with_name};
+ghost use Rattle.std.specs.List.{list_all};
+ghost use Rattle.trace_laws.specs.Names.{is_name, is_name_byte, is_numbered, number_of, with_name};
 
 use indexmap::IndexSet;
-use sp_base::{LockId, MAX_LOCKS, MAX_THREADS, MAX_VARS, OutOfMemory, ThreadId, VarId};
+use sp_base::{LockId, MAX_LOCKS, MAX_NAME, MAX_THREADS, MAX_VARS, OutOfMemory, ThreadId, VarId};
 use std::alloc::Global;
 use std::marker::Model;
 use thiserror::Error;
+
+fn is_name_byte(byte: u8) -> bool
+    ensures { result ≡ is_name_byte byte }
+{
+    byte != b'\n' && byte != b'(' && byte != b')' && byte != b'|'
+}
+
+fn are_name_bytes(bytes: &[u8]) -> bool
+    ensures { result ≡ list_all is_name_byte bytes.now }
+{
+    bytes.iter().all(|b| is_name_byte(*b))
+}
+
+/// Whether bytes are a name: at least one of them and at most `MAX_NAME`, and no newline, parenthesis or bar.
+pub fn is_name(bytes: &[u8]) -> bool
+    ensures { result ≡ is_name bytes.now }
+{
+    !bytes.is_empty() && bytes.len() <= MAX_NAME && are_name_bytes(bytes)
+}
 
 /// Why a name has no number.
 #[derive(Clone, Copy, Debug, PartialEq, Eq, Error)]
