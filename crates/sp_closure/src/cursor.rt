@@ -1,23 +1,25 @@
 //! A closed set of places that grows.
 
-ghost use Rattle.std.specs.Prelude.{◌≡◌, ◌<◌, ◌⊎◌, IsTrue, IfOk, length};
+ghost use Rattle.std.specs.Prelude.{ℕ, ◌≡◌, ◌<◌, ◌⊎◌, IsTrue, IfOk, length};
 ghost use Rattle.trace_laws.specs.Trace.{Before};
-ghost use Rattle.trace_laws.specs.Closed.{IsClosure};
+ghost use Rattle.trace_laws.specs.Closed.{ClosedSet, IsClosure};
+ghost use Rattle.closed_fronts.specs.Cuts.{flags_of};
+ghost use Rattle.closed_fronts.specs.Rows.{IsSteady};
 ghost use Rattle.sp_closure.specs.Members.{has, AreCounts, IsEmpty};
 
-use crate::paths::Paths;
-use crate::state::State;
+use closed_fronts::Fronts;
 use sp_base::OutOfMemory;
 use std::alloc::{AllocError, Global};
 use std::marker::Model;
 use trace_index::Index;
 
-/// A closed set of places of a trace, and how many members each thread has. Growing it from nothing to the whole trace
-/// takes about as many steps as the trace has events.
+/// A closed set of places of a trace, and how many members each thread has. Growing it to a place takes about as many
+/// steps as the trace has threads, and as many again for each section whose end it has to take in.
 #[derive(Drop)]
 pub struct Cursor<'a> {
-    paths: Paths<'a>,
-    state: State,
+    fronts: &'a Fronts<'a>,
+    cuts: Vec<u32>,
+    counts: Vec<u32>,
 }
 
 impl<'a> Model for Cursor<'a> {
@@ -25,11 +27,22 @@ impl<'a> Model for Cursor<'a> {
 
     ghost Value = { PlaceSet };
 
-    ghost use Rattle.sp_closure.specs.Cursors.{set_in, IsSound};
+    ghost use Rattle.sp_closure.specs.Cursors.{set_in, IsGrown};
 
     ghost view = { set_in };
 
-    ghost invariant = { IsSound };
+    ghost invariant = { IsGrown };
+}
+
+// Counts the places of each thread below its cut.
+fn count_all(fronts: &Fronts<'_>, cuts: &[u32], counts: &mut [u32])
+    requires steady { IsSteady fronts.now.events fronts.now.threads cuts.now }
+    requires size { length counts.old ≡ fronts.now.threads }
+    ensures { AreCounts fronts.now.events fronts.now.threads (has (flags_of fronts.now.events cuts.now)) counts.new }
+{
+    for thread in 0..fronts.threads() {
+        counts[thread as usize] = fronts.count(thread, cuts[thread as usize]);
+    }
 }
 
 impl<'a> Cursor<'a> {
@@ -37,21 +50,28 @@ impl<'a> Cursor<'a> {
     pub fn new(alloc: Global, index: &'a Index<'a>) -> Result<Cursor<'a>, OutOfMemory>
         ensures trace { IfOk result (λ cursor. cursor.trace ≡ index.now) }
         ensures empty { IfOk result (λ cursor. IsEmpty cursor.members) }
+        ensures closed { IfOk result (λ cursor. ClosedSet cursor.trace.events (has cursor.members)) }
     {
-        match Cursor::with_room(alloc, index) {
+        match Cursor::with_room(alloc, index.fronts()) {
             Ok(cursor) => Ok(cursor),
             Err(_) => Err(OutOfMemory),
         }
     }
 
     // The same, with the error of the allocator.
-    fn with_room(alloc: Global, index: &'a Index<'a>) -> Result<Cursor<'a>, AllocError>
-        ensures trace { IfOk result (λ cursor. cursor.trace ≡ index.now) }
+    fn with_room(alloc: Global, fronts: &'a Fronts<'a>) -> Result<Cursor<'a>, AllocError>
+        ensures trace { IfOk result (λ cursor. cursor.trace ≡ fronts.now) }
         ensures empty { IfOk result (λ cursor. IsEmpty cursor.members) }
+        ensures closed { IfOk result (λ cursor. ClosedSet cursor.trace.events (has cursor.members)) }
     {
-        let paths = Paths::new(alloc, index)?;
-        let state = State::new(alloc, &paths)?;
-        Ok(Cursor { paths, state })
+        let threads = fronts.threads() as usize;
+        let cuts = vec![in alloc; 0; threads]?;
+        let counts = vec![in alloc; 0; threads]?;
+        Ok(Cursor {
+            fronts,
+            cuts,
+            counts,
+        })
     }
 
     /// The set becomes the least closed set that holds it and all places before the place in program order.
@@ -60,7 +80,8 @@ impl<'a> Cursor<'a> {
         ensures trace { self.new.trace ≡ self.old.trace }
         ensures closure { IsClosure self.old.trace.events (λ i. IsTrue (has self.old.members i) ⊎ Before self.old.trace.events i place) (has self.new.members) }
     {
-        self.state.raise(&self.paths, place);
+        self.fronts.raise(&mut self.cuts, place);
+        count_all(self.fronts, &self.cuts, &mut self.counts);
     }
 
     /// Whether the place is in the set.
@@ -68,21 +89,24 @@ impl<'a> Cursor<'a> {
         requires { place < length self.now.trace.events }
         ensures { result ≡ has self.now.members place }
     {
-        self.state.has(&self.paths, place)
+        let event = self.fronts.event(place);
+        place < self.cuts[event.thread.value() as usize]
     }
 
     /// How many members each thread has: a number for each thread of the trace.
     pub fn counts(&self) -> &[u32]
         ensures { AreCounts self.now.trace.events self.now.trace.threads (has self.now.members) result.now }
     {
-        self.state.counts()
+        &self.counts
     }
 
     /// The set becomes empty.
     pub fn reset(&mut self)
         ensures trace { self.new.trace ≡ self.old.trace }
         ensures empty { IsEmpty self.new.members }
+        ensures closed { ClosedSet self.new.trace.events (has self.new.members) }
     {
-        self.state.restart(&self.paths);
+        self.cuts.fill(0);
+        self.counts.fill(0);
     }
 }

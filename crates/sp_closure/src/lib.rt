@@ -1,19 +1,11 @@
 //! Least closed sets of places of a trace.
 //!
 //! A `Cursor` holds a closed set that grows: `raise` makes it the least closed set that holds it and all places before a
-//! place. Each place is taken up once, at a cost that does not depend on the length of the trace. All room is taken by
-//! `new`.
+//! place. Stands on the closed fronts of an index, which all cursors of a search share, and keeps a cut and a count for
+//! each thread; it knows nothing of races and patterns. All room is taken by `new`.
 #![tactic(auto)]
 
-mod admitting;
 mod cursor;
-mod cuts;
-mod fronts;
-mod latest;
-mod links;
-mod paths;
-mod state;
-mod subjects;
 #[cfg(test)]
 mod tests;
 

@@ -1,8 +1,4 @@
-pub mod Numbering
-pub mod Writing
-pub mod Releasing
 pub mod Accessing
-pub mod Filled
 pub mod Named
 pub mod LockSets
 pub mod SetNumbering

@@ -6,10 +6,7 @@ use Rattle.trace_laws.specs.Event.{Event}
 use Rattle.trace_laws.specs.declared.event.Op.TheVariants.{Acquire}
 use Rattle.trace_laws.specs.Trace.{thread_at, op_at, Holds}
 use Rattle.trace_laws.specs.Reordering.{Rises}
-
--- the place is an acquire
-abbrev pub IsAcquire : List Event → ℕ → Type 0
-IsAcquire events a = (l : ℕ) × (op_at events a ≡ Some (Acquire l))
+pub use Rattle.closed_fronts.specs.Tables.{IsAcquire}
 
 -- the lock is in the held set of the place: the place's thread holds it just before the place
 pub record IsHeldAt (events : List Event) (place lock : ℕ) : Type 0 where

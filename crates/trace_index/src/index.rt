@@ -9,11 +9,9 @@ ghost use Rattle.trace_index.specs.HeldSets.{AreLocksBelow, IsAcquire, IsHeldAt,
 use crate::access_lists::AccessLists;
 use crate::held_sets::HeldSets;
 use crate::holdings::Holdings;
-use crate::locals::Locals;
 use crate::lock_sets;
-use crate::sections::Sections;
 use crate::set_numbers::SetNumbers;
-use crate::writers::Writers;
+use closed_fronts::Fronts;
 use sp_base::{LockId, MAX_LOCKS, MAX_VARS, OutOfMemory, VarId};
 use std::alloc::Global;
 use std::marker::Model;
@@ -24,10 +22,7 @@ use trace_laws::{Op, Trace};
 /// Contracts see the trace.
 #[derive(Drop)]
 pub struct Index<'a> {
-    trace: &'a Trace,
-    locals: Vec<u32>,
-    writers: Vec<Option<u32>>,
-    releases: Vec<Option<u32>>,
+    fronts: Fronts<'a>,
     accesses: Vec<Vec<u32>>,
     sets: SetNumbers,
     firsts: Vec<u32>,
@@ -47,29 +42,21 @@ impl<'a> Model for Index<'a> {
 }
 
 impl<'a> Index<'a> {
-    /// The index of a trace, made in one pass over it. The only error is want of memory.
+    /// The index of a trace. The only error is want of memory.
     pub fn build(alloc: Global, trace: &'a Trace) -> Result<Index<'a>, OutOfMemory>
         ensures { IfOk result (λ index. index ≡ trace.now) }
     {
-        let mut locals = Locals::new(alloc, trace)?;
-        let mut writers = Writers::new(alloc, trace)?;
-        let mut sections = Sections::new(alloc, trace)?;
+        let fronts = Fronts::build(alloc, trace)?;
         let mut accesses = AccessLists::new(alloc, trace)?;
         let mut holdings = Holdings::new(alloc, trace)?;
         let mut held = HeldSets::new(alloc, trace)?;
         for place in 0..trace.len() {
-            locals.note(trace, place);
-            writers.note(trace, place);
-            sections.note(trace, place);
             accesses.note(trace, place)?;
             held.note(trace, place, &holdings)?;
             holdings.note(trace, place)?;
         }
         Ok(Index {
-            trace,
-            locals: locals.numbers,
-            writers: writers.writers,
-            releases: sections.releases,
+            fronts,
             accesses: accesses.lists,
             sets: held.sets,
             firsts: held.firsts,
@@ -83,7 +70,14 @@ impl<'a> Index<'a> {
         ensures variables { AreVariablesBelow self.now.events MAX_VARS }
         ensures locks { AreLocksBelow self.now.events MAX_LOCKS }
     {
-        self.trace
+        self.fronts.places().trace()
+    }
+
+    /// The least closed sets that hold the places.
+    pub fn fronts(&self) -> &Fronts<'a>
+        ensures { result.now ≡ self.now }
+    {
+        &self.fronts
     }
 
     /// The number of a place within its thread: how many events of its thread stand before it.
@@ -91,7 +85,7 @@ impl<'a> Index<'a> {
         requires { place < length self.now.events }
         ensures { result ≡ local_of self.now.events place }
     {
-        self.locals[place as usize]
+        self.fronts.places().local(place)
     }
 
     /// The writer of a read: the last write of its variable before it, or none.
@@ -99,7 +93,7 @@ impl<'a> Index<'a> {
         requires { (x : ℕ) × Reads self.now.events place x }
         ensures { (x : ℕ) → Reads self.now.events place x → IsWriter self.now.events ◌<◌ place x result }
     {
-        self.writers[place as usize]
+        self.fronts.places().writer(place)
     }
 
     /// The release of an acquire. There is none exactly where its section does not end.
@@ -107,7 +101,7 @@ impl<'a> Index<'a> {
         requires { (l : ℕ) × (op_at self.now.events place ≡ Some (Op.Acquire l)) }
         ensures { (r : ℕ) → (result ≡ Some r) ↔ IsReleaseOf self.now.events place r }
     {
-        self.releases[place as usize]
+        self.fronts.places().release(place)
     }
 
     /// The places that read or write a variable, in the order of the trace.

@@ -9,12 +9,9 @@ mod access_lists;
 mod held_sets;
 mod holdings;
 mod index;
-mod locals;
 mod lock_sets;
-mod sections;
 mod set_numbers;
 #[cfg(test)]
 mod tests;
-mod writers;
 
 pub use index::Index;

@@ -1,9 +1,38 @@
-use Rattle.sp_closure.proofs.Flags.{empty_flags}
-use Rattle.sp_closure.proofs.Resting.{fresh_at_rest}
+use Rattle.std.proofs.Common.{◌≡◌, ℕ, length, replicate, ap, ◌∙◌}
+use Rattle.std.specs.Prelude.{slice_index}
+use Rattle.std.proofs.lemmas.List.{length-replicate}
+use Rattle.closed_fronts.proofs.Filled.{all_zero}
+use Rattle.closed_fronts.proofs.Flags.{empty_flags}
+use Rattle.closed_fronts.proofs.Counted.{counts_empty}
+use Rattle.closed_fronts.proofs.Gains.{steady_empty, mended_empty, closed_from}
 use Rattle.sp_closure.proofs.cursor.Cursor.with_room.Goals as goal
 
+-- each cut is zero
+none : (c : goal.In_ok-counts) → (t : ℕ) → slice_index c.in_ok-cuts.cuts.items t ≡ 0
+none c = all_zero c.in_ok-cuts.cuts.items c.threads-threads.result (c.in_ok-cuts.ensures.items_if_clones_equal (λ y h. h))
+
 pub invariant_of-result : goal.invariant_of-result
-invariant_of-result c = fresh_at_rest c.in_ok-paths.paths.events c.in_ok-paths.paths.threads c.in_ok-state.state c.in_ok-paths.ensures.trace c.in_ok-state.ensures
+invariant_of-result c =
+    let events = c.args.fronts.now.events in
+    let threads = c.args.fronts.now.threads in
+    let cuts = c.in_ok-cuts.cuts.items in
+    let counts = c.in_ok-counts.counts.items in
+    let n = c.threads-threads.result in
+    let cuts_are : cuts ≡ replicate {A = ℕ} n 0 = c.in_ok-cuts.ensures.items_if_clones_equal (λ y h. h) in
+    let counts_are : counts ≡ replicate {A = ℕ} n 0 = c.in_ok-counts.ensures.items_if_clones_equal (λ y h. h) in
+    let size : length cuts ≡ threads = ap length cuts_are ∙ length-replicate {A = ℕ} n 0 ∙ c.threads-threads.ensures.value in
+    let counted : length counts ≡ threads = ap length counts_are ∙ length-replicate {A = ℕ} n 0 ∙ c.threads-threads.ensures.value in
+    record {
+      trace = c.threads-threads.ensures.trace;
+      steady = steady_empty events threads cuts size (none c);
+      mended = mended_empty events cuts (none c);
+      counted = counts_empty events threads cuts counts counted (none c) (all_zero counts n counts_are);
+    }
 
 pub returns-clause-empty : goal.returns-clause-empty
-returns-clause-empty c = empty_flags c.in_ok-paths.paths.events c.in_ok-state.state.cuts c.in_ok-state.ensures.cuts
+returns-clause-empty c = empty_flags c.args.fronts.now.events c.in_ok-cuts.cuts.items (none c)
+
+pub returns-clause-closed : goal.returns-clause-closed
+returns-clause-closed c =
+    let made = invariant_of-result c in
+    closed_from c.args.fronts.now.events c.args.fronts.now.threads c.in_ok-cuts.cuts.items made.steady made.mended

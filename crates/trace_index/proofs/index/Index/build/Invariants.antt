@@ -1,15 +1,9 @@
-use Rattle.trace_index.specs.Numbers.{AreNumbered}
-use Rattle.trace_index.specs.Writers.{AreWriters}
-use Rattle.trace_index.specs.Sections.{AreReleases}
 use Rattle.trace_index.specs.Accessed.{AreListed}
 use Rattle.trace_index.specs.HeldSets.{AreHoldings, AreHeldSets}
 use Rattle.trace_index.proofs.index.Index.build.Given as goal
 
 abbrev pub invariant-loop-place : goal.invariant-loop-place
 invariant-loop-place l = record {
-  locals : AreNumbered l.trace.events l.place l.locals.counts.items l.locals.numbers.items;
-  writers : AreWriters l.trace.events l.place l.writers.last.items l.writers.writers.items;
-  sections : AreReleases l.trace.events l.place l.sections.held.items l.sections.releases.items;
   accesses : AreListed l.trace.events l.place l.accesses.lists.items;
   holdings : AreHoldings l.trace.events l.place l.holdings.held.items;
   held : AreHeldSets l.trace.events l.place l.held.sets l.held.firsts.items l.held.numbers.items;

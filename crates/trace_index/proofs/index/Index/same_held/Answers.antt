@@ -8,7 +8,7 @@ use Rattle.trace_index.proofs.index.Index.same_held.Goals as goal
 pub returns : goal.returns
 returns c =
     let x = c.self.inside in
-    let events = x.trace.now.events in
+    let events = x.fronts.events in
     let a = c.args.a in
     let b = c.args.b in
     let k = c.index.result.now in

@@ -1,0 +1,15 @@
+pub mod Numbering
+pub mod Writing
+pub mod Releasing
+pub mod Filled
+pub mod Flags
+pub mod Counts
+pub mod Admissions
+pub mod Joins
+pub mod Mends
+pub mod Gains
+pub mod Told
+pub mod Opens
+pub mod Leads
+pub mod Nexts
+pub mod Counted

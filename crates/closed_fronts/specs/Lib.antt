@@ -1,0 +1,12 @@
+pub mod Numbers
+pub mod Writers
+pub mod Sections
+pub mod Placed
+pub mod Members
+pub mod Cuts
+pub mod Needs
+pub mod Tables
+pub mod Rows
+pub mod Linked
+pub mod Tied
+pub mod Built

@@ -1,0 +1,231 @@
+//! The closures of the places of a trace.
+
+ghost use Rattle.std.specs.Prelude.{ℕ, ◌≡◌, ◌<◌, ◌≤◌, ◌+◌, ◌⊎◌, length, IfOk, IfSome, IsTrue, Bool, false, Some, slice_get, slice_index};
+ghost use Rattle.trace_laws.specs.Trace.{thread_at, Before};
+ghost use Rattle.trace_laws.specs.Traces.{IsTrace};
+ghost use Rattle.trace_laws.specs.Closed.{IsClosure};
+ghost use Rattle.trace_laws.specs.Findings.{HasCount};
+ghost use Rattle.closed_fronts.specs.Members.{has};
+ghost use Rattle.closed_fronts.specs.Cuts.{flags_of};
+ghost use Rattle.closed_fronts.specs.Rows.{IsSteady, IsMended, IsRow, AreRows, IsBelowCut, IsLocalBehind};
+ghost use Rattle.closed_fronts.specs.Needs.{IsWriterOfRead};
+
+use crate::mending::{admit_before, admit_itself, admit_writer, mend};
+use crate::places::Places;
+use crate::ties::Ties;
+use sp_base::OutOfMemory;
+use std::alloc::{AllocError, Global};
+use std::marker::Model;
+use trace_laws::{Event, Op, Trace};
+
+/// For each place of a trace the least closed set that holds it.
+///
+/// Contracts see the trace.
+#[derive(Drop)]
+pub struct Fronts<'a> {
+    ties: Ties<'a>,
+    rows: Vec<Vec<u32>>,
+}
+
+impl<'a> Model for Fronts<'a> {
+    ghost use Rattle.trace_laws.specs.Traces.{History};
+
+    ghost Value = { History };
+
+    ghost use Rattle.closed_fronts.specs.Built.{history_in, AreBuilt};
+
+    ghost view = { history_in };
+
+    ghost invariant = { AreBuilt };
+}
+
+// The empty set becomes the row of a place, where there is one for each place before it.
+fn grow_row(ties: &Ties, rows: &[Vec<u32>], cuts: &mut [u32], place: u32)
+    requires rows { AreRows ties.now.events ties.now.threads rows.now }
+    requires place { place < length ties.now.events }
+    requires made { length rows.now ≡ place }
+    requires size { length cuts.old ≡ ties.now.threads }
+    requires empty { (t : ℕ) → slice_index cuts.old t ≡ 0 }
+    ensures { IsRow ties.now.events ties.now.threads place cuts.new }
+{
+    admit_before(ties, rows, cuts, place);
+    admit_writer(ties, rows, cuts, place);
+    admit_itself(ties, cuts, place);
+    mend(ties, rows, cuts);
+}
+
+// The row of a place, where there is one for each place before it.
+fn whole_row(
+    alloc: Global,
+    ties: &Ties,
+    rows: &[Vec<u32>],
+    place: u32,
+) -> Result<Vec<u32>, AllocError>
+    requires rows { AreRows ties.now.events ties.now.threads rows.now }
+    requires place { place < length ties.now.events }
+    requires made { length rows.now ≡ place }
+    ensures { IfOk result (λ row. IsRow ties.now.events ties.now.threads place row.items) }
+{
+    let mut cuts = vec![in alloc; 0; ties.threads() as usize]?;
+    grow_row(ties, rows, &mut cuts, place);
+    Ok(cuts)
+}
+
+// Whether an event acquires a lock.
+fn is_acquire(event: &Event) -> bool
+    ensures { result ≡ false → (l : ℕ) → event.now.op ≡ Op.Acquire l → ⊥ }
+{
+    match &event.op {
+        Op::Acquire(_) => true,
+        _ => false,
+    }
+}
+
+// Whether the writer of the place, at which the event stands, is of its own thread, if there is one.
+fn reads_own(ties: &Ties, event: &Event, place: u32) -> bool
+    requires place { place < length ties.now.events }
+    ensures { IsTrue result → (w : ℕ) → IsWriterOfRead ties.now.events place w → thread_at ties.now.events w ≡ Some event.now.thread }
+{
+    match ties.writer(place) {
+        Some(writer) => ties.event(writer).thread.value() == event.thread.value(),
+        None => true,
+    }
+}
+
+// The latest place before the place in its thread, where the place needs nothing but that.
+fn local_source(ties: &Ties, place: u32) -> Option<u32>
+    requires { place < length ties.now.events }
+    ensures { IfSome result (IsLocalBehind ties.now.events place) }
+{
+    let event = ties.event(place);
+    if is_acquire(&event) {
+        return None;
+    }
+    if ties.joined(place).is_some() {
+        return None;
+    }
+    if !reads_own(ties, &event, place) {
+        return None;
+    }
+    ties.own(place)
+}
+
+// The row of the source becomes that of the place.
+fn extend_row(ties: &Ties, cuts: &mut [u32], source: u32, place: u32)
+    requires place { place < length ties.now.events }
+    requires local { IsLocalBehind ties.now.events place source }
+    requires row { IsRow ties.now.events ties.now.threads source cuts.old }
+    ensures { IsRow ties.now.events ties.now.threads place cuts.new }
+{
+    // A trace is lawful, as its length says.
+    let _ = ties.len();
+    let event = ties.event(place);
+    cuts[event.thread.value() as usize] = place + 1;
+}
+
+// The row of a place that needs nothing but its source.
+fn local_row(
+    alloc: Global,
+    ties: &Ties,
+    rows: &[Vec<u32>],
+    source: u32,
+    place: u32,
+) -> Result<Vec<u32>, AllocError>
+    requires rows { AreRows ties.now.events ties.now.threads rows.now }
+    requires place { place < length ties.now.events }
+    requires made { length rows.now ≡ place }
+    requires local { IsLocalBehind ties.now.events place source }
+    ensures { IfOk result (λ row. IsRow ties.now.events ties.now.threads place row.items) }
+{
+    let mut cuts = rows[source as usize].as_slice().to_vec(alloc)?;
+    extend_row(ties, &mut cuts, source, place);
+    Ok(cuts)
+}
+
+// The row of a place, where there is one for each place before it.
+fn row_of(alloc: Global, ties: &Ties, rows: &[Vec<u32>], place: u32) -> Result<Vec<u32>, AllocError>
+    requires rows { AreRows ties.now.events ties.now.threads rows.now }
+    requires place { place < length ties.now.events }
+    requires made { length rows.now ≡ place }
+    ensures { IfOk result (λ row. IsRow ties.now.events ties.now.threads place row.items) }
+{
+    match local_source(ties, place) {
+        Some(source) => local_row(alloc, ties, rows, source, place),
+        None => whole_row(alloc, ties, rows, place),
+    }
+}
+
+// The rows of all places.
+fn rows_of(alloc: Global, ties: &Ties) -> Result<Vec<Vec<u32>>, OutOfMemory>
+    ensures size { IfOk result (λ rows. length rows.items ≡ length ties.now.events) }
+    ensures rows { IfOk result (λ rows. AreRows ties.now.events ties.now.threads rows.items) }
+    ensures trace { IsTrace ties.now.events ties.now.threads }
+{
+    let mut rows = Vec::with_capacity(alloc, ties.len() as usize)?;
+    for place in 0..ties.len() {
+        let row = row_of(alloc, ties, &rows, place)?;
+        let Ok(()) = rows.push(row) else {
+            return Err(OutOfMemory);
+        };
+    }
+    Ok(rows)
+}
+
+impl<'a> Fronts<'a> {
+    /// The fronts of a trace. The only error is want of memory.
+    pub fn build(alloc: Global, trace: &'a Trace) -> Result<Fronts<'a>, OutOfMemory>
+        ensures { IfOk result (λ fronts. fronts ≡ trace.now) }
+    {
+        let ties = Ties::build(alloc, trace)?;
+        let rows = rows_of(alloc, &ties)?;
+        Ok(Fronts { ties, rows })
+    }
+
+    /// The tables on the trace.
+    pub fn places(&self) -> &Places<'a>
+        ensures { result.now ≡ self.now }
+    {
+        self.ties.places()
+    }
+
+    /// How many threads there are.
+    pub fn threads(&self) -> u16
+        ensures value { result ≡ self.now.threads }
+        ensures trace { IsTrace self.now.events self.now.threads }
+    {
+        self.ties.threads()
+    }
+
+    /// The event at a place.
+    pub fn event(&self, place: u32) -> Event
+        requires { place < length self.now.events }
+        ensures event { slice_get self.now.events place ≡ Some result }
+        ensures thread { result.thread < self.now.threads }
+    {
+        self.ties.event(place)
+    }
+
+    /// How many places of a thread are below its cut, which is just behind a place of the thread.
+    pub fn count(&self, thread: u16, cut: u32) -> u32
+        requires { (k : ℕ) → cut ≡ k + 1 → thread_at self.now.events k ≡ Some thread }
+        ensures { HasCount (IsBelowCut self.now.events thread cut) result }
+    {
+        if cut == 0 {
+            return 0;
+        }
+        self.ties.local(cut - 1) + 1
+    }
+
+    /// The set of the cuts becomes the least closed set that holds it and all places before the place in program order.
+    pub fn raise(&self, cuts: &mut [u32], place: u32)
+        requires place { place < length self.now.events }
+        requires steady { IsSteady self.now.events self.now.threads cuts.old }
+        requires mended { IsMended self.now.events cuts.old }
+        ensures steady { IsSteady self.now.events self.now.threads cuts.new }
+        ensures mended { IsMended self.now.events cuts.new }
+        ensures closure { IsClosure self.now.events (λ i. IsTrue (has (flags_of self.now.events cuts.old) i) ⊎ Before self.now.events i place) (has (flags_of self.now.events cuts.new)) }
+    {
+        admit_before(&self.ties, &self.rows, cuts, place);
+        mend(&self.ties, &self.rows, cuts);
+    }
+}

@@ -1,6 +1,0 @@
-use Rattle.std.proofs.Common.{rules}
-use Rattle.trace_index.proofs.Releasing.{releases_none}
-use Rattle.trace_index.proofs.sections.Sections.new.Goals as goal
-
-pub returns : goal.returns
-returns c = releases_none c.args.trace.now.events c.in_ok-vec.field-0.items c.in_ok-vec-2.field-0.items c.len.result (c.in_ok-vec.ensures.items_if_clones_equal (search rules)) (c.in_ok-vec-2.ensures.items_if_clones_equal (search rules)) c.len.ensures.value
