@@ -1,5 +1,6 @@
 pub mod Pairs
-pub mod Raised
 pub mod Keeping
-pub mod Among
-pub mod Ranged
+pub mod Outside
+pub mod Pointers
+pub mod Grouping
+pub mod Adding

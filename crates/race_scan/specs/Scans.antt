@@ -55,6 +55,6 @@ pub record IsNextRace (scan : Scan) (found : FoundRace) : Type 0 where
   pub first : NoRaceBetween scan.trace.events scan.from scan.to scan.passed found.later
 
 -- A scan gives its next race, and passes it; or it gives none where there is none, and stays as it was.
-abbrev pub Gives : Scan → Option (Race × List ℕ) → Scan → Type 0
-Gives old None new = NoRaceBetween old.trace.events old.from old.to old.passed (length old.trace.events) × (new ≡ old)
-Gives old (Some found) new = IsNextRace old (found_race found.0 found.1) × (new ≡ record old { passed = found.0.later + 1 })
+abbrev pub GivesNext : Scan → Option (Race × List ℕ) → Scan → Type 0
+GivesNext old None new = NoRaceBetween old.trace.events old.from old.to old.passed (length old.trace.events) × (new ≡ old)
+GivesNext old (Some found) new = IsNextRace old (found_race found.0 found.1) × (new ≡ record old { passed = found.0.later + 1 })

@@ -1,14 +1,18 @@
-//! The races of a trace on a range of its variables.
+//! The races of a trace on a range of its variables, each with its earliest partner and its keep, in the order of the
+//! later places (Mathur, Pavlogiannis and Viswanathan, "Optimal Prediction of Synchronization-Preserving Races",
+//! POPL 2021).
 //!
-//! A `RaceScan` gives each place that races with an earlier one, in the order of the trace, with the earliest such place
-//! and with how many events of each thread the race needs (Mathur, Pavlogiannis and Viswanathan, "Optimal Prediction of
-//! Synchronization-Preserving Races", POPL 2021).
+//! It stands on the accesses of an index and on the closed sets of a cursor, and looks at the accesses of its own
+//! variables alone. It must not know how a closed set is made, nor how a search is cut into jobs.
 #![tactic(auto)]
 
 mod candidates;
+mod finding;
+mod groups;
+mod order;
 mod partners;
+mod passing;
 mod scan;
-mod search;
 #[cfg(test)]
 mod tests;
 

@@ -1,87 +1,129 @@
 // The earliest place that a place races with.
-ghost use Rattle.std.specs.Prelude.{ℕ, ◌≡◌, ◌<◌, ◌≤◌, IfNone, IfSome, length, Some, slice_get};
-ghost use Rattle.trace_laws.specs.Findings.{Races};
-ghost use Rattle.race_scan.specs.Partners.{ArePlaces, AreSharing, NoRaceAmong, NoRaceBelow};
+ghost use Rattle.std.specs.Prelude.{ℕ, ◌≡◌, ◌<◌, ◌≤◌, ◌∷◌, [], IfNone, IfSome, length, slice_index_or};
+ghost use Rattle.trace_laws.specs.Reordering.{Conflict};
+ghost use Rattle.trace_laws.specs.Closed.{IsClosureBefore};
+ghost use Rattle.sp_closure.specs.Members.{has};
+ghost use Rattle.race_scan.specs.Partners.{IsPartner, NoRaceBelow};
+ghost use Rattle.race_scan.specs.Grouped.{AreOfThreads, HasPlace};
+ghost use Rattle.race_scan.specs.Passed.{ArePassed, AreReady, IsHead, IsEarliest};
 
-use crate::candidates::{count_before, is_of_thread, next_candidate};
+use crate::groups::Group;
+use crate::passing::{pass_all, pass_tried};
 use sp_closure::Cursor;
 use trace_laws::Trace;
 
-// The position of the earliest of the places of the thread, below a bound, that races with the later place. One set is
-// raised by the later place, and then by each conflicting place of the thread. A place that it has then does not race,
-// and where it has the later place no further one does.
-fn earliest_in_thread(
+// A place of a group.
+#[derive(Clone, Copy)]
+struct Head {
+    group: usize,
+    place: u32,
+}
+
+// The place at a position, or another one where there is none.
+fn place_or(places: &[u32], position: usize, other: u32) -> u32
+    ensures { result ≡ slice_index_or places.now position other }
+{
+    if position < places.len() {
+        return places[position];
+    }
+    other
+}
+
+// The earliest place that is not passed, where it stands before the later place.
+fn earliest(groups: &[Group], passed: &[usize], later: u32) -> Option<Head>
+    requires { length passed.now ≡ length groups.now }
+    ensures group { IfSome result (λ head. head.group < length groups.now) }
+    ensures some { IfSome result (λ head. IsEarliest groups.now passed.now later head.group head.place) }
+    ensures none { IfNone result ((i e : ℕ) → IsHead groups.now passed.now i e → later ≤ e) }
+{
+    let mut best = 0;
+    let mut bound = later;
+    for group in 0..groups.len() {
+        let place = place_or(&groups[group].places, passed[group], later);
+        if place < bound {
+            best = group;
+            bound = place;
+        }
+    }
+    if bound == later {
+        return None;
+    }
+    Some(Head {
+        group: best,
+        place: bound,
+    })
+}
+
+/// The set becomes the closure of the places before two places.
+pub fn raise_pair(cursor: &mut Cursor<'_>, first: u32, second: u32)
+    requires first { first < length cursor.old.trace.events }
+    requires second { second < length cursor.old.trace.events }
+    ensures trace { cursor.new.trace ≡ cursor.old.trace }
+    ensures closure { IsClosureBefore cursor.old.trace.events (first ∷ second ∷ []) (has cursor.new.members) }
+{
+    cursor.reset();
+    cursor.raise(first);
+    cursor.raise(second);
+}
+
+// The earliest place that the later place races with, of those that are not passed. The earliest of these is tried; where
+// it does not race, all that the set has of its group is passed.
+fn search(
     trace: &Trace,
     cursor: &mut Cursor<'_>,
-    places: &[u32],
-    thread: u16,
+    groups: &[Group],
+    passed: &mut [usize],
     later: u32,
-    until: usize,
-) -> Option<usize>
+) -> Option<u32>
     requires trace { cursor.old.trace ≡ trace.now }
-    requires places { ArePlaces trace.now.events places.now }
     requires later { later < length trace.now.events }
-    requires bound { until ≤ length places.now }
+    requires groups { AreOfThreads trace.now.events groups.now }
+    requires all { (e : ℕ) → Conflict trace.now.events e later → HasPlace groups.now e }
+    requires passed { ArePassed trace.now.events later groups.now passed.old }
+    requires ready { AreReady trace.now.events later groups.now passed.old }
     ensures trace { cursor.new.trace ≡ trace.now }
-    ensures none { IfNone result (NoRaceAmong trace.now.events thread later places.now until) }
-    ensures below { IfSome result (λ k. k < until) }
-    ensures race { IfSome result (λ k. (e : ℕ) → slice_get places.now k ≡ Some e → Races trace.now.events e later) }
-    ensures earliest { IfSome result (NoRaceAmong trace.now.events thread later places.now) }
+    ensures passed { ArePassed trace.now.events later groups.now passed.new }
+    ensures none { IfNone result (NoRaceBelow trace.now.events later later) }
+    ensures some { IfSome result (IsPartner trace.now.events later) }
 {
     // A trace is lawful, as its length says.
     let _ = trace.len();
-    let mut position = next_candidate(trace, places, thread, later, 0, until);
-    if until <= position {
-        return None;
-    }
-    cursor.reset();
-    cursor.raise(later);
-    while position < until {
-        let earlier = places[position];
-        if !cursor.has(earlier) {
-            cursor.raise(earlier);
-            if cursor.has(later) {
-                return None;
-            }
-            if !cursor.has(earlier) {
-                return Some(position);
-            }
+    while let Some(head) = earliest(groups, passed, later) {
+        raise_pair(cursor, head.place, later);
+        if !cursor.has(head.place) {
+            return Some(head.place);
         }
-        position = next_candidate(trace, places, thread, later, position + 1, until);
+        let next = pass_tried(
+            trace,
+            cursor,
+            &groups[head.group].places,
+            later,
+            passed[head.group],
+        );
+        passed[head.group] = next;
     }
     None
 }
 
-/// The earliest place that the later place races with, of those that share its variable.
-pub fn earliest_partner(
+/// The same, where those places are passed first that are known to be out without a set. Where no other one stands before
+/// the later place, no set is made.
+pub fn partner(
     trace: &Trace,
     cursor: &mut Cursor<'_>,
-    places: &[u32],
+    groups: &[Group],
+    passed: &mut [usize],
     later: u32,
 ) -> Option<u32>
     requires trace { cursor.old.trace ≡ trace.now }
-    requires places { AreSharing trace.now.events later places.now }
     requires later { later < length trace.now.events }
+    requires groups { AreOfThreads trace.now.events groups.now }
+    requires all { (e : ℕ) → Conflict trace.now.events e later → HasPlace groups.now e }
+    requires passed { ArePassed trace.now.events later groups.now passed.old }
     ensures trace { cursor.new.trace ≡ trace.now }
+    ensures passed { ArePassed trace.now.events later groups.now passed.new }
     ensures none { IfNone result (NoRaceBelow trace.now.events later later) }
-    ensures earlier { IfSome result (λ e. e < later) }
-    ensures race { IfSome result (λ e. Races trace.now.events e later) }
-    ensures earliest { IfSome result (NoRaceBelow trace.now.events later) }
+    ensures some { IfSome result (IsPartner trace.now.events later) }
 {
-    let until = count_before(places, later);
-    let mut best = until;
-    for thread in 0..trace.threads() {
-        if is_of_thread(trace, later, thread) {
-            continue;
-        }
-        if let Some(position) = earliest_in_thread(trace, cursor, places, thread, later, best) {
-            best = position;
-        }
-    }
-    // Each event is of one of the threads.
-    let _ = trace.len();
-    if best == until {
-        return None;
-    }
-    Some(places[best])
+    pass_all(trace, groups, passed, later);
+    search(trace, cursor, groups, passed, later)
 }

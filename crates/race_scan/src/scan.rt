@@ -1,9 +1,9 @@
 //! A scan for races.
 
 ghost use Rattle.std.specs.Prelude.{◌≡◌, IfOk, OnErr};
-ghost use Rattle.race_scan.specs.Scans.{Gives};
+ghost use Rattle.race_scan.specs.Scans.{GivesNext};
 
-use crate::search::{first_race, keep_of};
+use crate::order::{first_from, keep_of, list_in_order};
 use sp_base::OutOfMemory;
 use sp_closure::Cursor;
 use std::alloc::Global;
@@ -19,20 +19,22 @@ pub struct RaceScan<'a> {
     alloc: Global,
     index: &'a Index<'a>,
     cursor: Cursor<'a>,
+    races: Vec<Race>,
     from: u32,
     to: u32,
     passed: u32,
 }
 
 impl<'a> Model for RaceScan<'a> {
-    ghost use Rattle.std.specs.Prelude.{◌≡◌};
     ghost use Rattle.race_scan.specs.Scans.{Scan};
 
     ghost Value = { Scan };
 
-    ghost view = { λ s. record { trace = s.index.now; from = s.from; to = s.to; passed = s.passed } };
+    ghost use Rattle.race_scan.specs.Kept.{scan_in, IsPrepared};
 
-    ghost invariant = { λ s. s.cursor.trace ≡ s.index.now };
+    ghost view = { scan_in };
+
+    ghost invariant = { IsPrepared };
 }
 
 impl<'a> RaceScan<'a> {
@@ -45,11 +47,13 @@ impl<'a> RaceScan<'a> {
     ) -> Result<RaceScan<'a>, OutOfMemory>
         ensures { IfOk result (λ scan. scan ≡ record { trace = index.now; from = from; to = to; passed = 0 }) }
     {
-        let cursor = Cursor::new(alloc, index)?;
+        let mut cursor = Cursor::new(alloc, index)?;
+        let races = list_in_order(alloc, index, &mut cursor, from, to)?;
         Ok(RaceScan {
             alloc,
             index,
             cursor,
+            races,
             from,
             to,
             passed: 0,
@@ -59,16 +63,10 @@ impl<'a> RaceScan<'a> {
     /// The next race in the order of the later places, with the earliest partner and the keep, or none where there is no
     /// further one. Without memory the scan stays where it was.
     pub fn next(&mut self) -> Result<Option<(Race, Keep)>, OutOfMemory>
-        ensures ok { IfOk result (λ found. Gives self.old found self.new) }
+        ensures ok { IfOk result (λ found. GivesNext self.old found self.new) }
         ensures err { OnErr result (self.new ≡ self.old) }
     {
-        let Some(race) = first_race(
-            self.index,
-            &mut self.cursor,
-            self.from,
-            self.to,
-            self.passed,
-        ) else {
+        let Some(race) = first_from(&self.races, self.passed) else {
             return Ok(None);
         };
         let keep = keep_of(self.alloc, self.index.trace(), &mut self.cursor, &race)?;
