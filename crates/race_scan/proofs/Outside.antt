@@ -11,7 +11,7 @@ use Rattle.trace_laws.specs.Closed.{ClosedSet, HoldsAll, IsClosureBefore, Before
 use Rattle.trace_laws.proofs.Places.{three_way, event_of, before_less, contains_head, false_unless}
 use Rattle.trace_laws.proofs.ClosedSets.{reorderings_are_closed_lem}
 use Rattle.trace_laws.proofs.Enabling.{is_listed, listed_from_contains, contains_from_listed, listed_tells}
-use Rattle.sp_closure.proofs.Flags.{less_from_test, test_from_less}
+use Rattle.closed_fronts.proofs.Flags.{less_from_test, test_from_less}
 use Rattle.race_scan.specs.Passed.{IsOut}
 use Rattle.race_scan.proofs.Pairs.{before_pair, pair_before}
 
