@@ -10,7 +10,7 @@ use Rattle.trace_laws.specs.Trace.{thread_at, Holds}
 use Rattle.trace_laws.proofs.Ordered.{rising_unique}
 use Rattle.trace_laws.proofs.Places.{within_from_op}
 use Rattle.trace_laws.proofs.Growing.{slice_get-set_same, slice_get-set_other}
-use Rattle.trace_index.specs.HeldSets.{IsAcquire, IsHeldSet, HaveSameHeld, HaveNoneCommon, IsFirstAlike, AreHeldBy, AreAllDistinct, AreKept, IsNumberedSet, IsFirstWith, AreHeldSets}
+use Rattle.trace_index.specs.HeldSets.{IsAcquire, IsHeldSet, HaveSameHeld, HaveNoneCommon, IsFirstAlike, AreHeldBy, AreAllDistinct, KeepNumbers, IsNumberedSet, IsFirstWith, AreHeldSets}
 use Rattle.trace_index.proofs.SetNumbering.{push_cases}
 
 -- an acquire is a place of the trace
@@ -58,7 +58,7 @@ module _ (events : List Event) (n : ℕ) (sets : List (List ℕ)) (firsts number
       earlier a less acquire (inr place) = omega (arith, place)
 
   -- an acquire gets the number of its held set
-  module _ (more : List (List ℕ)) (set : List ℕ) (number : ℕ) (acquire : IsAcquire events n) (held : IsHeldSet events n set) (at_number : slice_get more number ≡ Some set) (distinct : AreAllDistinct more) (kept : AreKept sets more) where
+  module _ (more : List (List ℕ)) (set : List ℕ) (number : ℕ) (acquire : IsAcquire events n) (held : IsHeldSet events n set) (at_number : slice_get more number ≡ Some set) (distinct : AreAllDistinct more) (kept : KeepNumbers sets more) where
     -- its place has an entry
     within : n < length numbers
     within = let all = acquire_within events n acquire in let size = old.places in omega arith

@@ -1,4 +1,6 @@
+pub mod Listing
 pub mod Accessing
+pub mod Acquiring
 pub mod Named
 pub mod LockSets
 pub mod SetNumbering

@@ -11,7 +11,7 @@ use Rattle.indexmap.specs.IndexSet.{insert_key}
 use Rattle.trace_laws.specs.Names.{same_name, is_numbered, number_of, with_name}
 use Rattle.trace_laws.proofs.NameLemmas.{any_at, numbered, number_found, inserted}
 use Rattle.trace_laws.proofs.Places.{three_way, slice_get-append_left, slice_get-append_seam}
-use Rattle.trace_index.specs.HeldSets.{AreAllDistinct, AreKept}
+use Rattle.trace_index.specs.HeldSets.{AreAllDistinct, KeepNumbers}
 
 -- a set that has a number stands at it
 pub stands_at : (sets : List (List ℕ)) (set : List ℕ) → is_numbered sets set ≡ true → slice_get sets (number_of sets set) ≡ Some set
@@ -38,7 +38,7 @@ push_cases {X} xs y x k at = go (three_way k (length xs))
     go (inr (inr more)) = let within = slice_get_within (xs ++ y ∷ []) k x at in absurd (omega (arith, length-append xs (y ∷ [])))
 
 -- all sets keep their numbers where one more comes
-pub kept_push : (sets : List (List ℕ)) (set : List ℕ) → AreKept sets (sets ++ set ∷ [])
+pub kept_push : (sets : List (List ℕ)) (set : List ℕ) → KeepNumbers sets (sets ++ set ∷ [])
 kept_push sets set k s at = slice_get-append_left sets (set ∷ []) k (slice_get_within sets k s at) ∙ at
 
 -- distinct sets and a new one are distinct

@@ -57,8 +57,8 @@ abbrev pub AreAllDistinct : List (List ℕ) → Type 0
 AreAllDistinct sets = (a b : ℕ) (s : List ℕ) → slice_get sets a ≡ Some s → slice_get sets b ≡ Some s → a ≡ b
 
 -- each set keeps its number
-abbrev pub AreKept : List (List ℕ) → List (List ℕ) → Type 0
-AreKept old new = (k : ℕ) (s : List ℕ) → slice_get old k ≡ Some s → slice_get new k ≡ Some s
+abbrev pub KeepNumbers : List (List ℕ) → List (List ℕ) → Type 0
+KeepNumbers old new = (k : ℕ) (s : List ℕ) → slice_get old k ≡ Some s → slice_get new k ≡ Some s
 
 -- the acquire's number is that of its held set
 pub record IsNumberedSet (events : List Event) (sets : List (List ℕ)) (a number : ℕ) : Type 0 where

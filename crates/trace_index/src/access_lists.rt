@@ -1,15 +1,17 @@
 // The accesses of each variable.
 ghost use Rattle.std.specs.Prelude.{ℕ, ◌<◌, ◌+◌, length, IfOk, IfNone, IfSome, OnOk};
 ghost use Rattle.trace_laws.specs.Reordering.{Accesses};
-ghost use Rattle.trace_index.specs.Accessed.{AreListed};
+ghost use Rattle.trace_index.specs.Accessed.{AreAccessLists};
 
-use sp_base::{MAX_VARS, OutOfMemory, VarId};
+use crate::place_lists;
+use sp_base::{OutOfMemory, VarId};
 use std::alloc::Global;
 use trace_laws::{Op, Trace};
 
 /// For each variable its accesses among the noted places.
 #[derive(Drop)]
 pub struct AccessLists {
+    alloc: Global,
     pub lists: Vec<Vec<u32>>,
 }
 
@@ -27,30 +29,27 @@ fn variable_at(trace: &Trace, place: u32) -> Option<VarId>
 
 impl AccessLists {
     /// No place of the trace is noted.
-    pub fn new(alloc: Global, trace: &Trace) -> Result<AccessLists, OutOfMemory>
-        ensures { IfOk result (λ a. AreListed trace.now.events 0 a.lists.items) }
+    pub fn new(alloc: Global, trace: &Trace) -> AccessLists
+        ensures { AreAccessLists trace.now.events 0 result.lists.items }
     {
-        let mut lists = Vec::with_capacity(alloc, MAX_VARS as usize)?;
-        for _ in 0..MAX_VARS {
-            let Ok(()) = lists.push(Vec::new(alloc)) else {
-                return Err(OutOfMemory);
-            };
+        let _ = trace;
+        AccessLists {
+            alloc,
+            lists: Vec::new(alloc),
         }
-        Ok(AccessLists { lists })
     }
 
     /// Notes the next place.
     pub fn note(&mut self, trace: &Trace, place: u32) -> Result<(), OutOfMemory>
         requires place { place < length trace.now.events }
-        requires noted { AreListed trace.now.events place self.old.lists.items }
-        ensures { OnOk result (AreListed trace.now.events (place + 1) self.new.lists.items) }
+        requires noted { AreAccessLists trace.now.events place self.old.lists.items }
+        ensures { OnOk result (AreAccessLists trace.now.events (place + 1) self.new.lists.items) }
     {
         let Some(var) = variable_at(trace, place) else {
             return Ok(());
         };
-        let Ok(()) = self.lists[var.value() as usize].push(place) else {
-            return Err(OutOfMemory);
-        };
+        let number = var.value() as usize;
+        place_lists::add(self.alloc, &mut self.lists, number, place)?;
         Ok(())
     }
 }

@@ -1,20 +1,24 @@
 //! The index of a trace.
 
-ghost use Rattle.std.specs.Prelude.{ℕ, ◌≡◌, ◌<◌, ◌↔◌, length, IfOk, IsTrue, Some};
+ghost use Rattle.std.specs.Prelude.{ℕ, ◌≡◌, ◌<◌, ◌+◌, ◌↔◌, length, IfOk, IsTrue, Some};
 ghost use Rattle.trace_laws.specs.Trace.{Reads, op_at, IsWriter, IsReleaseOf};
 ghost use Rattle.trace_laws.specs.Kept.{local_of};
 ghost use Rattle.trace_index.specs.Accessed.{AreAccesses, AreVariablesBelow};
+ghost use Rattle.trace_index.specs.Acquired.{AreAcquires, IsSectionAt};
 ghost use Rattle.trace_index.specs.HeldSets.{AreLocksBelow, IsAcquire, IsHeldAt, IsHeldSet, HaveSameHeld, HaveNoneCommon, IsFirstAlike};
 
 use crate::access_lists::AccessLists;
+use crate::acquire_lists::{AcquireLists, pair};
 use crate::held_sets::HeldSets;
 use crate::holdings::Holdings;
-use crate::lock_sets;
+use crate::section::Section;
 use crate::set_numbers::SetNumbers;
+use crate::{lock_sets, place_lists};
 use closed_fronts::Fronts;
-use sp_base::{LockId, MAX_LOCKS, MAX_VARS, OutOfMemory, VarId};
+use sp_base::{LockId, MAX_LOCKS, MAX_VARS, OutOfMemory, Steps, ThreadId, VarId};
 use std::alloc::Global;
 use std::marker::Model;
+use std::sync::ledger::Ledger;
 use trace_laws::{Op, Trace};
 
 /// A trace with tables on its places.
@@ -24,6 +28,7 @@ use trace_laws::{Op, Trace};
 pub struct Index<'a> {
     fronts: Fronts<'a>,
     accesses: Vec<Vec<u32>>,
+    acquires: Vec<Vec<u32>>,
     sets: SetNumbers,
     firsts: Vec<u32>,
     held: Vec<u32>,
@@ -47,17 +52,20 @@ impl<'a> Index<'a> {
         ensures { IfOk result (λ index. index ≡ trace.now) }
     {
         let fronts = Fronts::build(alloc, trace)?;
-        let mut accesses = AccessLists::new(alloc, trace)?;
+        let mut accesses = AccessLists::new(alloc, trace);
+        let mut acquires = AcquireLists::new(alloc, trace);
         let mut holdings = Holdings::new(alloc, trace)?;
         let mut held = HeldSets::new(alloc, trace)?;
         for place in 0..trace.len() {
             accesses.note(trace, place)?;
+            acquires.note(trace, place)?;
             held.note(trace, place, &holdings)?;
             holdings.note(trace, place)?;
         }
         Ok(Index {
             fronts,
             accesses: accesses.lists,
+            acquires: acquires.lists,
             sets: held.sets,
             firsts: held.firsts,
             held: held.numbers,
@@ -108,7 +116,43 @@ impl<'a> Index<'a> {
     pub fn accesses(&self, var: VarId) -> &[u32]
         ensures { AreAccesses self.now.events var result.now }
     {
-        &self.accesses[var.value() as usize]
+        place_lists::list(&self.accesses, var.value() as usize)
+    }
+
+    // The acquires of a lock by a thread, in the order of the trace.
+    fn acquires(&self, lock: LockId, thread: ThreadId) -> &[u32]
+        ensures { AreAcquires self.now.events lock thread result.now }
+    {
+        // A trace names only threads below its number of threads, as its length says.
+        let trace = self.trace();
+        let _ = trace.len();
+        let threads = trace.threads();
+        if thread.value() >= threads {
+            return &[];
+        }
+        place_lists::list(&self.acquires, pair(threads, lock, thread))
+    }
+
+    /// The section of that number, from 0 in the order of the trace, of a lock by a thread. None exactly where the
+    /// thread has at most so many sections of the lock. It is one step.
+    pub fn next_section<L: Ledger>(
+        &self,
+        lock: LockId,
+        thread: ThreadId,
+        number: u32,
+        steps: &mut Steps<L>,
+    ) -> Option<Section>
+        ensures section { IsSectionAt self.now.events lock thread number result }
+        ensures steps { steps.new ≡ steps.old + 1 }
+    {
+        steps.tick();
+        let Some(acquire) = self.acquires(lock, thread).get(number as usize) else {
+            return None;
+        };
+        Some(Section {
+            acquire: *acquire,
+            release: self.release(*acquire),
+        })
     }
 
     /// The held set of an acquire: the numbers of the locks that its thread holds just before it, from the least on.

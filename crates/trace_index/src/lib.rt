@@ -6,12 +6,18 @@
 #![tactic(auto)]
 
 mod access_lists;
+mod acquire_lists;
 mod held_sets;
 mod holdings;
 mod index;
 mod lock_sets;
+mod place_lists;
+mod section;
+#[cfg(test)]
+mod section_tests;
 mod set_numbers;
 #[cfg(test)]
 mod tests;
 
 pub use index::Index;
+pub use section::Section;

@@ -1,6 +1,6 @@
 // Numbers of sets of locks.
 ghost use Rattle.std.specs.Prelude.{ℕ, ◌≡◌, ◌<◌, ◌≤◌, ◌+◌, [], length, slice_get, Some, IfOk};
-ghost use Rattle.trace_index.specs.HeldSets.{AreAllDistinct, AreKept};
+ghost use Rattle.trace_index.specs.HeldSets.{AreAllDistinct, KeepNumbers};
 
 use indexmap::IndexSet;
 use sp_base::OutOfMemory;
@@ -48,7 +48,7 @@ impl SetNumbers {
         requires { AreAllDistinct self.old }
         ensures number { IfOk result (λ n. slice_get self.new n ≡ Some set.now) }
         ensures distinct { AreAllDistinct self.new }
-        ensures kept { AreKept self.old self.new }
+        ensures kept { KeepNumbers self.old self.new }
         ensures next { IfOk result (λ n. n ≤ length self.old) }
         ensures size { IfOk result (λ n. n < length self.old → length self.new ≡ length self.old) }
         ensures more { IfOk result (λ n. n ≡ length self.old → length self.new ≡ length self.old + 1) }

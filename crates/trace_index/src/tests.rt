@@ -152,3 +152,31 @@ fn an_index_knows_held_sets(rt: HostRuntime) -> Result<(), Fail> {
     assert_eq!(rt; index.held(8), [4, 9].as_slice());
     Ok(())
 }
+
+// The first thread takes a lock within a lock, or the other way round, and gives both back.
+fn nest_two(rt: &impl Abort, builder: &mut Builder, thread: ThreadId, outer: LockId, inner: LockId)
+    requires named { AreNamedBelow builder.old.events 2 }
+    requires thread { thread < 2 }
+    ensures { AreNamedBelow builder.new.events 2 }
+{
+    add(rt, builder, thread, Op::Acquire(outer));
+    add(rt, builder, thread, Op::Acquire(inner));
+    add(rt, builder, thread, Op::Release(inner));
+    add(rt, builder, thread, Op::Release(outer));
+}
+
+// The first thread nests two locks, writes, and nests them again. The second reads, and nests them the other way round.
+pub fn written_between_sections(rt: &impl Abort, alloc: Global) -> Trace {
+    let first = ThreadId::new(0).expect(rt, "a thread");
+    let second = ThreadId::new(1).expect(rt, "a thread");
+    let a = LockId::new(0).expect(rt, "a lock");
+    let b = LockId::new(1).expect(rt, "a lock");
+    let z = VarId::new(0).expect(rt, "a variable");
+    let mut builder = Builder::new(alloc, 14).expect(rt, "room");
+    nest_two(rt, &mut builder, first, a, b);
+    add(rt, &mut builder, first, Op::Write(z));
+    nest_two(rt, &mut builder, first, a, b);
+    add(rt, &mut builder, second, Op::Read(z));
+    nest_two(rt, &mut builder, second, b, a);
+    builder.finish(2)
+}

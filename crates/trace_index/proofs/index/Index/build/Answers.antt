@@ -1,7 +1,9 @@
 use Rattle.std.proofs.Common.{◌≤◌, length, sym, subst, arith}
 use Rattle.sp_base.specs.declared.limits.TheConstants.{MAX_LOCKS}
 use Rattle.trace_laws.specs.Traces.{History}
-use Rattle.trace_index.specs.Accessed.{AreListed}
+use Rattle.trace_index.specs.Listed.{AreListed}
+use Rattle.trace_index.specs.Accessed.{AreAccessLists}
+use Rattle.trace_index.specs.Acquired.{IsAcquireOfPair}
 use Rattle.trace_index.specs.HeldSets.{AreLocksBelow, AreHeldSets}
 use Rattle.trace_index.proofs.Holding.{locks_below}
 use Rattle.trace_index.proofs.index.Index.build.Goals as goal
@@ -16,7 +18,8 @@ invariant_of-result c =
     let past = c.loop-place-test.false in
     let all : length events ≤ at.place = omega arith in
     record {
-      accesses = subst (λ (h : History). AreListed h.events (length h.events) at.accesses.lists.items) same (subst (λ n. AreListed events n at.accesses.lists.items) (omega arith) at.invariant.accesses);
+      accesses = subst (λ (h : History). AreAccessLists h.events (length h.events) at.accesses.lists.items) same (subst (λ n. AreAccessLists events n at.accesses.lists.items) (omega arith) at.invariant.accesses);
+      acquires = subst (λ (h : History). AreListed (IsAcquireOfPair h.events h.threads) (length h.events) at.acquires.lists.items) same (subst (λ n. AreListed (IsAcquireOfPair events c.args.trace.now.threads) n at.acquires.lists.items) (omega arith) at.invariant.acquires);
       held = subst (λ (h : History). AreHeldSets h.events (length h.events) at.held.sets at.held.firsts.items at.held.numbers.items) same (subst (λ n. AreHeldSets events n at.held.sets at.held.firsts.items at.held.numbers.items) (omega arith) at.invariant.held);
       locks = subst (λ (h : History). AreLocksBelow h.events MAX_LOCKS) same (locks_below events at.place at.holdings.held.items all at.invariant.holdings);
     }

@@ -1,7 +1,7 @@
 use Rattle.std.proofs.Common.{◌≡◌, List, ℕ, [], ◌∷◌, ◌++◌, length, Some, slice_get, sym, ap, subst, ◌∙◌, length-append}
 use Rattle.trace_laws.proofs.NameLemmas.{count}
 use Rattle.trace_laws.proofs.Places.{slice_get-append_seam}
-use Rattle.trace_index.specs.HeldSets.{AreAllDistinct, AreKept}
+use Rattle.trace_index.specs.HeldSets.{AreAllDistinct, KeepNumbers}
 use Rattle.trace_index.proofs.SetNumbering.{set_found, set_nowhere, set_last, kept_push, distinct_push}
 use Rattle.trace_index.proofs.set_numbers.SetNumbers.number.Goals as goal
 
@@ -23,7 +23,7 @@ returns-clause-distinct c =
 pub returns-clause-kept : goal.returns-clause-kept
 returns-clause-kept c =
     let last = set_last (λ k. k.items) c.self.inside.sets.keys c.args.self.now c.self.view_is c.args.set.now c.in_ok-owned.owned c.insert.new.self.keys c.in_ok-owned.ensures.items c.in_default.ensures.found c.in-Ok.ensures.keys in
-    subst (AreKept c.args.self.now) (sym last) (kept_push c.args.self.now c.args.set.now)
+    subst (KeepNumbers c.args.self.now) (sym last) (kept_push c.args.self.now c.args.set.now)
 
 pub returns-clause-more : goal.returns-clause-more
 returns-clause-more c =

@@ -1,0 +1,28 @@
+-- The sections of a lock by a thread, in the order of a trace.
+use Rattle.std.specs.Prelude.{◌≡◌, ◌↔◌, ◌*◌, ◌+◌, ◌/◌, ◌%◌, ℕ, List, Option, Some, slice_get, Contains, IfSome}
+use Rattle.std.specs.Option.{option_map}
+use Rattle.trace_laws.specs.Event.{Event}
+use Rattle.trace_laws.specs.Trace.{Acquires, IsReleaseOf}
+use Rattle.trace_laws.specs.Reordering.{Rises}
+use Rattle.trace_index.specs.declared.section.Section.{Section}
+
+-- the list has exactly the acquires of the lock by the thread, in the order of the trace
+pub record AreAcquires (events : List Event) (lock thread : ℕ) (places : List ℕ) : Type 0 where
+  pub order : Rises places
+  pub members : (p : ℕ) → Contains places p ↔ Acquires events p thread lock
+
+-- The section of that number, from 0, of the lock by the thread, in the order of the trace: the acquire of that number,
+-- and its release where there is one. None exactly where there are at most so many.
+pub record IsSectionAt (events : List Event) (lock thread number : ℕ) (section : Option Section) : Type 0 where
+  pub acquires : List ℕ
+  pub all : AreAcquires events lock thread acquires
+  pub acquire : option_map (λ s. s.acquire) section ≡ slice_get acquires number
+  pub release : IfSome section (λ s. (r : ℕ) → (s.release ≡ Some r) ↔ IsReleaseOf events s.acquire r)
+
+-- the number of a lock and a thread, where there are so many threads
+abbrev pub pair_of : ℕ → ℕ → ℕ → ℕ
+pair_of threads lock thread = lock * threads + thread
+
+-- place p is an acquire of the lock by the thread whose number is x, where there are so many threads
+abbrev pub IsAcquireOfPair : List Event → ℕ → ℕ → ℕ → Type 0
+IsAcquireOfPair events threads x p = Acquires events p (x % threads) (x / threads)
