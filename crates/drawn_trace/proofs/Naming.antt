@@ -6,7 +6,8 @@ use Rattle.std.proofs.lemmas.Bool.{lt-ltb, le-leb}
 use Rattle.std.proofs.lemmas.Fmt.{decimal_injective, length-decimal-le}
 use Rattle.std.proofs.lemmas.Option.{unwrap_or-slice_get}
 use Rattle.std.proofs.lemmas.List.FromFn.{length-map-range_with_len, get_or-map-range_with_len}
-use Rattle.std_text.specs.Fields.{is_name, is_name_byte, is_digit}
+use Rattle.sp_base.specs.Digits.{is_digit}
+use Rattle.trace_laws.specs.Names.{is_name, is_name_byte}
 use Rattle.std_text.specs.Rereading.{AreReadable}
 use Rattle.std_text.specs.Writing.{name_at}
 use Rattle.std_text.proofs.Spelling.{all_digits, list_all-weaken}

@@ -4,7 +4,7 @@ use Rattle.std.proofs.Common.{◌≡◌, ℕ, zero, suc, ◌+◌, ◌≤◌, inl
 use Rattle.std.proofs.lemmas.Bool.{cases_lt}
 use Rattle.script_machine.specs.declared.fault.ScriptFault.{ScriptFault as Fault}
 use Rattle.script_machine.specs.Machine.{Script}
-use Rattle.script_machine.specs.ScriptText.{Numbered, ThreadText, Spells, Scripts, FirstFault, lines_of, words_of, line_says, fault_at, fault_of, statements_of, tables_of, flat_fault, flattened}
+use Rattle.script_machine.specs.ScriptText.{Numbered, ThreadText, Spells, Scripts, FirstFault, lines_of, words_of, words_say, fault_at, fault_of, statements_of, tables_of, flat_fault, flattened}
 use Rattle.script_machine.proofs.Unique.{threads_unique}
 
 -- no line stands past the end
@@ -15,7 +15,7 @@ past (x ∷ xs) (suc k) h = past xs k (omega arith)
 
 -- no fault stands past the last line
 pub no_fault_past : (lines : List (List ℕ)) (k : ℕ) → length lines ≤ k → fault_at lines k ≡ None
-no_fault_past lines k h = ap (λ o. fault_of (k + 1) (tables_of (statements_of (take k lines))) (line_says (words_of (unwrap_or o [])))) (past lines k h)
+no_fault_past lines k h = ap (λ o. fault_of (k + 1) (tables_of (statements_of (take k lines))) (words_say (words_of (unwrap_or o [])))) (past lines k h)
 
 -- statements have one script at most
 pub same_script : (statements : List Numbered) (ts us : List ThreadText) (a b : Script) → Spells statements ts a → Spells statements us b → (ts ≡ us) × (a ≡ b)

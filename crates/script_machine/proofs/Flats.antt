@@ -7,9 +7,9 @@ use Rattle.script_machine.specs.declared.instruction.Instruction.TheVariants as 
 use Rattle.script_machine.specs.declared.flatten.Flat.{Flat}
 use Rattle.script_machine.specs.declared.text.Statement.{Statement as Spoken}
 use Rattle.script_machine.specs.declared.text.Statement.TheVariants as spoken
-use Rattle.script_machine.specs.Said.{said, action_of}
+use Rattle.script_machine.specs.Said.{said, action_in}
 use Rattle.script_machine.specs.ScriptText.{Numbered, Tables, Body, Empty, Simple, Choice, Either, Times, Statement, Act, If, Repeat, Else, End, Action, spelling, flattened, at_line, line_of, instruction_of, times}
-use Rattle.script_machine.specs.BodyAt.{IsEnder, Ends, capped, IsPart, IsWhole, IsPiece, IsFlat}
+use Rattle.script_machine.specs.BodyAt.{IsEnder, Ends, capped, IsPart, IsWholeBody, IsPiece, IsFlat}
 use Rattle.script_machine.proofs.CappedSizes.{cap_low, cap_self, cap_add, choice_size, either_size, times_size, length_times}
 use Rattle.script_machine.proofs.Determined.{parts}
 use Rattle.script_machine.proofs.Unique.{lines_equal}
@@ -297,7 +297,7 @@ part_more names S write b behind size cursor size' lines lines' flat p piece end
 
 -- a part with nothing behind it is the whole
 pub part_whole : (names : Tables) (S : List Numbered) (write : Bool) (b : Body) (behind : List Numbered) (flat : Flat) → IsPart names S write b behind flat.size flat.lines.items flat.next
-    → IsPiece names S flat.next write None → Ends behind → flat.size ≤ (MAX_INSTRUCTIONS + 1) → IsWhole names S write b behind flat
+    → IsPiece names S flat.next write None → Ends behind → flat.size ≤ (MAX_INSTRUCTIONS + 1) → IsWholeBody names S write b behind flat
 part_whole names S write b behind flat p piece ends few =
     let none : p.rest ≡ Empty = piece p.rest behind p.left ends in
     record {
@@ -307,7 +307,7 @@ part_whole names S write b behind flat p piece ends few =
     }
 
 -- what is neither an action nor an opening ends a body
-pub ender_there : (names : Tables) (s : Spoken) → ((n : ℕ) → s ≡ spoken.If n → ⊥) → ((n : ℕ) → s ≡ spoken.Repeat n → ⊥) → None ≡ option_map (λ action. instruction_of names action) (action_of (said s)) → IsEnder (said s)
+pub ender_there : (names : Tables) (s : Spoken) → ((n : ℕ) → s ≡ spoken.If n → ⊥) → ((n : ℕ) → s ≡ spoken.Repeat n → ⊥) → None ≡ option_map (λ action. instruction_of names action) (action_in (said s)) → IsEnder (said s)
 ender_there names (spoken.Lock name) i r h = absurd (cc)
 ender_there names (spoken.Unlock name) i r h = absurd (cc)
 ender_there names (spoken.Read name) i r h = absurd (cc)

@@ -5,7 +5,7 @@ use Rattle.std.proofs.lemmas.Bool.{cases_Bool}
 use Rattle.trace_laws.specs.Names.{same_name}
 use Rattle.trace_laws.proofs.NameLemmas.{none_at}
 use Rattle.sp_base.specs.declared.limits.TheConstants.{MAX_THREADS}
-use Rattle.script_machine.specs.ScriptText.{Numbered, Statement, Tables, lines_of, statements_of, tables_of, names_in, thread_name, lock_name, variable_name, other_name, number_in, is_among, with_name, is_new, unknown_fault}
+use Rattle.script_machine.specs.ScriptText.{Numbered, Statement, Tables, lines_of, statements_of, tables_of, names_in, thread_name, lock_name, variable_name, other_name, number_in, is_among, with_optional, is_new, unknown_fault}
 use Rattle.script_machine.specs.Known.{IsKnown, AreKnown}
 use Rattle.script_machine.proofs.OneFork.{Among}
 use Rattle.script_machine.proofs.Formed.{number_below, name_there, known_name}
@@ -52,5 +52,5 @@ pub known_answer : (names : List (List ℕ)) (name : List ℕ) (n : ℕ) → n �
 known_answer names name n is low = let known = low_is_known names name (omega (arith, is)) in rw known (ap Some is)
 
 -- a name that is there stays numbered as it was
-pub with_known : (names : List (List ℕ)) (name : List ℕ) → is_among name names ≡ true → with_name (Some name) names ≡ names
+pub with_known : (names : List (List ℕ)) (name : List ℕ) → is_among name names ≡ true → with_optional (Some name) names ≡ names
 with_known names name known = rw known refl

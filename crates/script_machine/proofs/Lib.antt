@@ -12,7 +12,6 @@ pub mod Runs
 pub mod Suffixes
 pub mod RunsAreLawful
 pub mod Words
-pub mod Numbers
 pub mod LineLemmas
 pub mod ReadLemmas
 pub mod Bodies

@@ -9,7 +9,7 @@ use Rattle.sp_base.specs.declared.limits.TheConstants.{MAX_THREADS, MAX_LOCKS, M
 use Rattle.script_machine.specs.declared.fault.ScriptKind.{ScriptKind}
 use Rattle.script_machine.specs.declared.fault.ScriptKind.TheVariants.{NoThread, TooManyNames}
 use Rattle.script_machine.specs.declared.tables.Block.{Block}
-use Rattle.script_machine.specs.ScriptText.{Numbered, Tables, tables_of, Statement, Thread, Act, If, Repeat, Else, End, at_line, with_name, is_new, is_among, is_too_many, thread_name, lock_name, variable_name, place_fault, thread_fault, statement_fault, fault_if, fault_of, or_else, IsClean, lines_of, line_says, words_of, statements_of, numbered_of, ThreadText, threads_spelling, flattened, size_fault}
+use Rattle.script_machine.specs.ScriptText.{Numbered, Tables, tables_of, Statement, Thread, Act, If, Repeat, Else, End, at_line, with_optional, is_new, is_among, is_too_many, thread_name, lock_name, variable_name, place_fault, thread_fault, statement_fault, fault_if, fault_of, or_else, IsClean, lines_of, words_say, words_of, statements_of, numbered_of, ThreadText, threads_spelling, flattened, size_fault}
 use Rattle.script_machine.specs.BodyAt.{IsFew}
 use Rattle.script_machine.proofs.ReadLemmas.{statements_more, fault_next, tables_next}
 use Rattle.script_machine.proofs.Nesting.{or_none, if_none, drop_line}
@@ -17,7 +17,7 @@ use Rattle.script_machine.proofs.Formed.{thread_lines}
 use Rattle.script_machine.proofs.ThreadsRead.{flats, passes}
 
 -- a name that is not too many leaves the names within the limit
-with_few : (o : Option (List ℕ)) (names : List (List ℕ)) (limit : ℕ) → (is_new o names && nat_le limit (length names)) ≡ false → length names ≤ limit → length (with_name o names) ≤ limit
+with_few : (o : Option (List ℕ)) (names : List (List ℕ)) (limit : ℕ) → (is_new o names && nat_le limit (length names)) ≡ false → length names ≤ limit → length (with_optional o names) ≤ limit
 with_few None names limit h few = few
 with_few (Some name) names limit h few = elim (cases_Bool (is_among name names)) [
   | inl t ↦ rw t few
@@ -71,7 +71,7 @@ limits_next sofar l line says h =
     same = ap length (append-nil (filter_map (λ s. thread_name s.says) sofar)) ∙ l.named
 
     one : (says : Statement) → place_fault line (tables_of sofar) says ≡ None
-        → length (filter_map (λ s. thread_name s.says) sofar ++ filter_map (λ s. thread_name s.says) (at_line line says ∷ [])) ≡ length (with_name (thread_name says) (tables_of sofar).threads)
+        → length (filter_map (λ s. thread_name s.says) sofar ++ filter_map (λ s. thread_name s.says) (at_line line says ∷ [])) ≡ length (with_optional (thread_name says) (tables_of sofar).threads)
     one (Thread name) e =
         let new = fresh (tables_of sofar).blocks name e in
         let left = length-append (filter_map (λ s. thread_name s.says) sofar) (name ∷ []) in
@@ -95,7 +95,7 @@ limits_lines text clean (suc k) h =
     let more = statements_more lines k line rest here in
     let next : k + 1 ≡ suc k = omega arith in
     subst (λ m. Limits (statements_of (take m lines))) next
-    (subst Limits (sym more) (by (statements_of (take k lines)) (k + 1) before (line_says (words_of line)) none))
+    (subst Limits (sym more) (by (statements_of (take k lines)) (k + 1) before (words_say (words_of line)) none))
   where
     by : (sofar : List Numbered) (number : ℕ) → Limits sofar → (o : Option (Result Statement ScriptKind)) → fault_of number (tables_of sofar) o ≡ None → Limits (sofar ++ option_to_list (numbered_of number o))
     by sofar number l None h = subst Limits (sym (append-nil sofar)) l

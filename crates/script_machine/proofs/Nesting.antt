@@ -3,7 +3,7 @@ use Rattle.std.proofs.Common.{◌≡◌, ℕ, zero, suc, ◌+◌, ◌<◌, ◌�
 use Rattle.std.proofs.lemmas.List.Sums.{fold_push}
 use Rattle.script_machine.specs.declared.tables.Block.{Block}
 use Rattle.script_machine.specs.declared.fault.ScriptKind.{ScriptKind}
-use Rattle.script_machine.specs.ScriptText.{Numbered, tables_of, Body, Empty, Simple, Choice, Either, Times, Statement, Thread, Act, If, Repeat, Else, End, spelling, at_line, ThreadText, threads_spelling, open_blocks, open_after, place_fault, statement_fault, fault_if, fault_of, or_else, IsClean, lines_of, line_says, words_of, statements_of, numbered_of}
+use Rattle.script_machine.specs.ScriptText.{Numbered, tables_of, Body, Empty, Simple, Choice, Either, Times, Statement, Thread, Act, If, Repeat, Else, End, spelling, at_line, ThreadText, threads_spelling, open_blocks, open_after, place_fault, statement_fault, fault_if, fault_of, or_else, IsClean, lines_of, words_say, words_of, statements_of, numbered_of}
 use Rattle.std.proofs.lemmas.List.{take_all}
 use Rattle.script_machine.proofs.ReadLemmas.{statements_more, fault_next}
 use Rattle.script_machine.proofs.Bodies.{joined, spelling_joined}
@@ -222,7 +222,7 @@ begun_lines text clean (suc k) h =
     let more = statements_more lines k line rest here in
     let next : k + 1 ≡ suc k = omega arith in
     subst (λ m. Begun (statements_of (take m lines))) next
-    (subst Begun (sym more) (by (statements_of (take k lines)) (k + 1) before (line_says (words_of line)) none))
+    (subst Begun (sym more) (by (statements_of (take k lines)) (k + 1) before (words_say (words_of line)) none))
   where
     by : (sofar : List Numbered) (number : ℕ) → Begun sofar → (o : Option (Result Statement ScriptKind)) → fault_of number (tables_of sofar) o ≡ None → Begun (sofar ++ option_to_list (numbered_of number o))
     by sofar number begun None h = subst Begun (sym (append-nil sofar)) begun

@@ -3,7 +3,7 @@ use Rattle.std.proofs.Common.{◌≡◌, ℕ, zero, suc, ◌+◌, List, [], ◌�
 use Rattle.std.specs.List.{enumerate_from}
 use Rattle.std.proofs.lemmas.List.Elements.{filter_map-append}
 use Rattle.std.proofs.lemmas.List.Sums.{fold_push}
-use Rattle.script_machine.specs.ScriptText.{words_of, line_says, fault_of, fault_at, statements_of, numbered_of, Numbered, Tables, tables_of, grown, with_name, names_in, first_appearances, thread_name, lock_name, variable_name, Statement}
+use Rattle.script_machine.specs.ScriptText.{words_of, words_say, fault_of, fault_at, statements_of, numbered_of, Numbered, Tables, tables_of, grown, with_optional, names_in, first_appearances, thread_name, lock_name, variable_name, Statement}
 use Rattle.script_machine.specs.Spoken.{grown_by}
 
 -- the lines up to the next one
@@ -42,20 +42,20 @@ enumerate_push n (y ∷ ys) x =
     ap (λ zs. (n, y) ∷ zs) (enumerate_push (n + 1) ys x ∙ ap (λ m. enumerate_from (n + 1) ys ++ (m, x) ∷ []) k)
 
 -- the statements with one more line
-pub statements_next : (lines : List (List ℕ)) (line : List ℕ) → statements_of (lines ++ line ∷ []) ≡ statements_of lines ++ option_to_list (numbered_of (1 + length lines) (line_says (words_of line)))
+pub statements_next : (lines : List (List ℕ)) (line : List ℕ) → statements_of (lines ++ line ∷ []) ≡ statements_of lines ++ option_to_list (numbered_of (1 + length lines) (words_say (words_of line)))
 statements_next lines line =
-    ap (filter_map (λ l. numbered_of l.0 (line_says (words_of l.1)))) (enumerate_push 1 lines line)
-    ∙ (filter_map-append _ (enumerate_from 1 lines) ((1 + length lines, line) ∷ []) ∙ ap (λ xs. statements_of lines ++ xs) (one (numbered_of (1 + length lines) (line_says (words_of line)))))
+    ap (filter_map (λ l. numbered_of l.0 (words_say (words_of l.1)))) (enumerate_push 1 lines line)
+    ∙ (filter_map-append _ (enumerate_from 1 lines) ((1 + length lines, line) ∷ []) ∙ ap (λ xs. statements_of lines ++ xs) (one (numbered_of (1 + length lines) (words_say (words_of line)))))
   where
     one : (o : Option Numbered) → Rattle.std.specs.List.cons_option o [] ≡ option_to_list o
     one None = refl
     one (Some s) = refl
 
 -- the names with one more statement
-names_next : (name_of : Statement → Option (List ℕ)) (xs : List Numbered) (s : Numbered) → names_in name_of (xs ++ s ∷ []) ≡ with_name (name_of s.says) (names_in name_of xs)
+names_next : (name_of : Statement → Option (List ℕ)) (xs : List Numbered) (s : Numbered) → names_in name_of (xs ++ s ∷ []) ≡ with_optional (name_of s.says) (names_in name_of xs)
 names_next name_of xs s = ap first_appearances (filter_map-append (λ n. name_of n.says) xs (s ∷ [])) ∙ one (name_of s.says)
   where
-    one : (o : Option (List ℕ)) → first_appearances (filter_map (λ n. name_of n.says) xs ++ Rattle.std.specs.List.cons_option o []) ≡ with_name o (names_in name_of xs)
+    one : (o : Option (List ℕ)) → first_appearances (filter_map (λ n. name_of n.says) xs ++ Rattle.std.specs.List.cons_option o []) ≡ with_optional o (names_in name_of xs)
     one None = ap first_appearances (append-nil (filter_map (λ n. name_of n.says) xs))
     one (Some name) = fold_push _ [] (filter_map (λ n. name_of n.says) xs) name
 
@@ -75,13 +75,13 @@ tables_more xs (Some s) = tables_next xs s
 
 -- the statements with those of the next line
 pub statements_more : (lines : List (List ℕ)) (k : ℕ) (line : List ℕ) (rest : List (List ℕ)) → drop k lines ≡ line ∷ rest
-    → statements_of (take (k + 1) lines) ≡ statements_of (take k lines) ++ option_to_list (numbered_of (k + 1) (line_says (words_of line)))
+    → statements_of (take (k + 1) lines) ≡ statements_of (take k lines) ++ option_to_list (numbered_of (k + 1) (words_say (words_of line)))
 statements_more lines k line rest h =
     let count : 1 + length (take k lines) ≡ k + 1 = (let l = take_length lines k line rest h in omega arith) in
     ap statements_of (take_next lines k line rest h) ∙ statements_next (take k lines) line
-    ∙ ap (λ n. statements_of (take k lines) ++ option_to_list (numbered_of n (line_says (words_of line)))) count
+    ∙ ap (λ n. statements_of (take k lines) ++ option_to_list (numbered_of n (words_say (words_of line)))) count
 
 -- the fault of the next line, by the tables so far
 pub fault_next : (lines : List (List ℕ)) (k : ℕ) (line : List ℕ) (rest : List (List ℕ)) (tables : Tables) → drop k lines ≡ line ∷ rest → tables ≡ tables_of (statements_of (take k lines))
-    → fault_at lines k ≡ fault_of (k + 1) tables (line_says (words_of line))
+    → fault_at lines k ≡ fault_of (k + 1) tables (words_say (words_of line))
 fault_next lines k line rest tables h same = rw (get_next lines k line rest h, same) refl

@@ -8,7 +8,7 @@ use Rattle.script_machine.specs.Line.{Line}
 use Rattle.script_machine.specs.declared.fault.ScriptKind.TheVariants.{TooManyInstructions}
 use Rattle.script_machine.specs.declared.flatten.Flat.{Flat}
 use Rattle.script_machine.specs.ScriptText.{Numbered, Tables, Thread, spelling, flattened, at_line, ThreadText, threads_spelling, size_fault}
-use Rattle.script_machine.specs.BodyAt.{capped, IsWhole, IsFlat}
+use Rattle.script_machine.specs.BodyAt.{capped, IsWholeBody, IsFlat}
 use Rattle.script_machine.proofs.Determined.{parts}
 use Rattle.script_machine.proofs.Unique.{threads_end}
 use Rattle.script_machine.proofs.CappedSizes.{cap_one}
@@ -25,7 +25,7 @@ pub record IsNext (names : Tables) (S : List Numbered) (cursor : ℕ) (write : B
   pub more : List ThreadText
   pub is : left ≡ thread ∷ more
   pub here : slice_get S cursor ≡ Some (at_line thread.line (Thread thread.name))
-  pub whole : IsWhole names S write thread.body (threads_spelling more) flat
+  pub whole : IsWholeBody names S write thread.body (threads_spelling more) flat
 
 -- the body that the code read is that of the next thread
 pub next_thread : (names : Tables) (S : List Numbered) (cursor : ℕ) (write : Bool) (flat : Flat) (left : List ThreadText) → cursor < length S → drop cursor S ≡ threads_spelling left

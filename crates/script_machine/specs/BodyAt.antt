@@ -39,7 +39,7 @@ pub record IsPart (names : Tables) (statements : List Numbered) (write : Bool) (
   pub lines : write ≡ true → length (flattened names b) ≤ MAX_INSTRUCTIONS → flattened names b ≡ part ++ flattened names rest
 
 -- the whole body is taken
-pub record IsWhole (names : Tables) (statements : List Numbered) (write : Bool) (b : Body) (behind : List Numbered) (flat : Flat) : Type 0 where
+pub record IsWholeBody (names : Tables) (statements : List Numbered) (write : Bool) (b : Body) (behind : List Numbered) (flat : Flat) : Type 0 where
   pub size : flat.size ≡ capped (length (flattened names b))
   pub lines : write ≡ true → length (flattened names b) ≤ MAX_INSTRUCTIONS → flat.lines.items ≡ flattened names b
   pub left : drop flat.next statements ≡ behind
@@ -57,7 +57,7 @@ IsPiece names statements at write answer =
 -- the answer for the body that starts at a place, where one does
 abbrev pub IsFlat : Tables → List Numbered → ℕ → Bool → Flat → Type 0
 IsFlat names statements at write flat =
-    (b : Body) (behind : List Numbered) → drop at statements ≡ spelling b ++ behind → Ends behind → IsWhole names statements write b behind flat
+    (b : Body) (behind : List Numbered) → drop at statements ≡ spelling b ++ behind → Ends behind → IsWholeBody names statements write b behind flat
 
 -- so for whatever statements the lines resolve
 abbrev pub IsPieceOf : List ResolvedLine → ℕ → Bool → Option Flat → Type 0

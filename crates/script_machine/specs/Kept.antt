@@ -9,7 +9,7 @@ abbrev pub script_of : ScriptFields → Script
 script_of s = record { bodies = map (λ b. b.items) s.bodies.items; locks = length s.names.locks; variables = length s.names.vars; names = s.names }
 
 -- it is a script, each thread has its name, the size is that of the bodies, and the threads that some body forks are marked
-pub record IsSound (s : ScriptFields) : Type 0 where
+pub record IsKeptScript (s : ScriptFields) : Type 0 where
   pub script : IsScript (script_of s)
   pub named : length s.names.threads ≡ length s.bodies.items
   pub size : s.size ≡ size_of (script_of s)

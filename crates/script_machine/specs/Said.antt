@@ -21,6 +21,6 @@ said (spoken.Repeat n) = Repeat n
 said spoken.End = End
 
 -- the action of a statement that is one
-abbrev pub action_of : Statement → Option Action
-action_of (Act action) = Some action
-action_of statement = None
+abbrev pub action_in : Statement → Option Action
+action_in (Act action) = Some action
+action_in statement = None

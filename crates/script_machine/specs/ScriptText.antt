@@ -1,9 +1,10 @@
 -- The text of scripts: its lines and words, its statements, its blocks, what they flatten to, and its first fault.
-use Rattle.std.specs.Prelude.{◌≡◌, ℕ, zero, suc, ◌+◌, ◌-◌, ◌*◌, ◌^◌, ◌<◌, Bool, true, false, not, ◌&&◌, ◌||◌, ◌⊎◌, List, [], ◌∷◌, ◌++◌, map, length, take, nat_eq, nat_lt, nat_le, ◌==◌, slice_get, unwrap_or, is_none, Option, Some, None, Result, Ok, Err, fold, ok_or, filter, filter_map, flat_map, sum_by, count_by, find, codes, bytes_eq, if◌then◌else◌}
-use Rattle.std.specs.List.{list_all, enumerate_from}
-use Rattle.sp_base.specs.declared.limits.TheConstants.{MAX_NAME, MAX_DEPTH, MAX_THREADS, MAX_LOCKS, MAX_VARS, MAX_INSTRUCTIONS}
+use Rattle.std.specs.Prelude.{◌≡◌, ℕ, zero, suc, ◌+◌, ◌-◌, ◌^◌, ◌<◌, Bool, true, false, not, ◌&&◌, ◌||◌, ◌⊎◌, List, [], ◌∷◌, ◌++◌, map, length, take, nat_eq, nat_lt, nat_le, ◌==◌, slice_get, unwrap_or, is_none, Option, Some, None, Result, Ok, Err, fold, ok_or, filter, filter_map, flat_map, sum_by, count_by, find, codes, bytes_eq, if◌then◌else◌}
+use Rattle.std.specs.List.{enumerate_from}
+use Rattle.sp_base.specs.declared.limits.TheConstants.{MAX_DEPTH, MAX_THREADS, MAX_LOCKS, MAX_VARS, MAX_INSTRUCTIONS}
+use Rattle.sp_base.specs.Digits.{number_written}
 use Rattle.trace_laws.specs.declared.event.Op.TheVariants as op
-use Rattle.trace_laws.specs.Names.{NameLists, is_numbered, with_name as with_one, number_of as place_of}
+use Rattle.trace_laws.specs.Names.{NameLists, is_name, is_numbered, with_name as with_one, number_of as place_of}
 use Rattle.script_machine.specs.declared.instruction.Instruction.{Instruction}
 use Rattle.script_machine.specs.declared.instruction.Instruction.TheVariants as instruction
 use Rattle.script_machine.specs.Line.{Line}
@@ -44,20 +45,6 @@ is_blank b = b == 32 || b == 9
 abbrev pub words_of : List ℕ → List (List ℕ)
 words_of line = filter (λ word. nat_lt 0 (length word)) (pieces is_blank line)
 
--- a name: at least one byte, within the limit, without a bar and parentheses
-abbrev pub is_name : List ℕ → Bool
-is_name word = nat_lt 0 (length word) && nat_le (length word) MAX_NAME && list_all (λ b. not (b == 124 || b == 40 || b == 41)) word
-
--- one of the bytes 0 to 9
-abbrev pub is_digit : ℕ → Bool
-is_digit b = nat_le 48 b && nat_le b 57
-
--- the number that digits spell, where it is at most the bound
-abbrev pub number_of : ℕ → List ℕ → Option ℕ
-number_of bound word =
-    let n = fold (λ n d. 10 * n + (d - 48)) 0 word in
-    if nat_lt 0 (length word) && list_all is_digit word && nat_le n bound then Some n else None
-
 -- Statements
 
 -- what becomes an instruction wherever it stands; a thread, a lock and a variable are named
@@ -90,7 +77,7 @@ name_in words = Err Operand
 
 -- the one word, where it is a number up to the bound
 abbrev pub number_in_words : ℕ → List (List ℕ) → Result ℕ ScriptKind
-number_in_words bound (word ∷ []) = ok_or (number_of bound word) Number
+number_in_words bound (word ∷ []) = ok_or (number_written bound word) Number
 number_in_words bound words = Err Operand
 
 -- no word, as 0
@@ -116,7 +103,7 @@ max_number = 2 ^ 64 - 1
 
 -- a write of the register, or of a number where a second word stands
 abbrev pub write_of : List (List ℕ) → Result Statement ScriptKind
-write_of (name ∷ number ∷ []) = if is_name name then with_ok (λ n. Act (WriteNumber name n)) (ok_or (number_of max_number number) Number) else Err Operand
+write_of (name ∷ number ∷ []) = if is_name name then with_ok (λ n. Act (WriteNumber name n)) (ok_or (number_written max_number number) Number) else Err Operand
 write_of words = named (λ name. Act (Write name)) words
 
 -- what the first word and the words after it say, or which of the kinds 21 to 23 they are
@@ -137,10 +124,10 @@ statement_of word words =
     else Err UnknownWord
 
 -- a line without words, or whose first word begins with a hash, is skipped
-abbrev pub line_says : List (List ℕ) → Option (Result Statement ScriptKind)
-line_says [] = None
-line_says ([] ∷ words) = None
-line_says ((b ∷ bs) ∷ words) = if b == 35 then None else Some (statement_of (b ∷ bs) words)
+abbrev pub words_say : List (List ℕ) → Option (Result Statement ScriptKind)
+words_say [] = None
+words_say ([] ∷ words) = None
+words_say ((b ∷ bs) ∷ words) = if b == 35 then None else Some (statement_of (b ∷ bs) words)
 
 -- the statement of a line, where it is one, with its number
 abbrev pub numbered_of : ℕ → Option (Result Statement ScriptKind) → Option Numbered
@@ -149,7 +136,7 @@ numbered_of line says = None
 
 -- the statements of the lines
 abbrev pub statements_of : List (List ℕ) → List Numbered
-statements_of lines = filter_map (λ l. numbered_of l.0 (line_says (words_of l.1))) (enumerate_from 1 lines)
+statements_of lines = filter_map (λ l. numbered_of l.0 (words_say (words_of l.1))) (enumerate_from 1 lines)
 
 -- Names
 
@@ -219,17 +206,17 @@ tables_of statements = record {
   blocks = open_blocks statements;
 }
 
--- the names with one more, where it is new
-abbrev pub with_name : Option (List ℕ) → List (List ℕ) → List (List ℕ)
-with_name None names = names
-with_name (Some name) names = with_one names name
+-- the names with the one more that there may be, where it is new
+abbrev pub with_optional : Option (List ℕ) → List (List ℕ) → List (List ℕ)
+with_optional None names = names
+with_optional (Some name) names = with_one names name
 
 -- the tables with one more statement
 abbrev pub grown : Tables → ℕ → Statement → Tables
 grown tables line statement = record {
-  threads = with_name (thread_name statement) tables.threads;
-  locks = with_name (lock_name statement) tables.locks;
-  variables = with_name (variable_name statement) tables.variables;
+  threads = with_optional (thread_name statement) tables.threads;
+  locks = with_optional (lock_name statement) tables.locks;
+  variables = with_optional (variable_name statement) tables.variables;
   blocks = open_after line statement tables.blocks;
 }
 
@@ -288,7 +275,7 @@ fault_of line tables (Some (Ok statement)) = statement_fault line tables stateme
 
 -- the fault of the line at place k, with the lines before it
 abbrev pub fault_at : List (List ℕ) → ℕ → Option Fault
-fault_at lines k = fault_of (k + 1) (tables_of (statements_of (take k lines))) (line_says (words_of (unwrap_or (slice_get lines k) [])))
+fault_at lines k = fault_of (k + 1) (tables_of (statements_of (take k lines))) (words_say (words_of (unwrap_or (slice_get lines k) [])))
 
 -- Blocks, and what they flatten to
 

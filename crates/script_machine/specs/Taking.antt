@@ -7,7 +7,7 @@ use Rattle.script_machine.specs.declared.fault.ScriptError.{ScriptError}
 use Rattle.script_machine.specs.declared.fault.ScriptError.TheVariants as error
 use Rattle.script_machine.specs.declared.fault.ScriptFault.{ScriptFault as Fault}
 use Rattle.script_machine.specs.declared.fault.ScriptKind.TheVariants.{NoThread, TwiceNamed, TooManyNames}
-use Rattle.script_machine.specs.ScriptText.{Statement, Tables, Thread, thread_name, lock_name, variable_name, is_among, is_new, fault_if, or_else, open_fault, place_fault, with_name}
+use Rattle.script_machine.specs.ScriptText.{Statement, Tables, Thread, thread_name, lock_name, variable_name, is_among, is_new, fault_if, or_else, open_fault, place_fault, with_optional}
 
 -- the fault of a statement among the open blocks
 abbrev pub block_fault : ℕ → Tables → Statement → Option Fault
@@ -32,9 +32,9 @@ names_fault line tables statement =
 -- the tables with the names of one more statement
 abbrev pub named_after : Tables → Statement → Tables
 named_after tables statement = record tables {
-  threads = with_name (thread_name statement) tables.threads;
-  locks = with_name (lock_name statement) tables.locks;
-  variables = with_name (variable_name statement) tables.variables;
+  threads = with_optional (thread_name statement) tables.threads;
+  locks = with_optional (lock_name statement) tables.locks;
+  variables = with_optional (variable_name statement) tables.variables;
 }
 
 -- why a name of the line got no number

@@ -1,4 +1,6 @@
-//! Scripts, and the machine that runs them.
+//! Scripts, and the machine that runs them. It promises that each text has one script or one first fault, that each run is
+//! a lawful trace which its threads determine, and that a recording of steps is a run. It stands on `trace_laws`, and knows
+//! no thread of the system, no lock, and no search.
 #![tactic(auto)]
 
 #[cfg(test)]

@@ -1,7 +1,7 @@
 //! The first pass over a script text: its statements, or the fault of a line.
 
 ghost use Rattle.std.specs.Prelude.{◌≡◌, ◌+◌, ◌^◌, ◌<◌, length, ◌++◌, map, Some, None, Result, Err, IfOk, OnOk, option_to_list};
-ghost use Rattle.script_machine.specs.ScriptText.{lines_of, words_of, line_says, fault_of, statements_of, numbered_of, IsClean, FaultOnLine, tables_of};
+ghost use Rattle.script_machine.specs.ScriptText.{lines_of, words_of, words_say, fault_of, statements_of, numbered_of, IsClean, FaultOnLine, tables_of};
 ghost use Rattle.script_machine.specs.Spoken.{numbered, grown_by};
 ghost use Rattle.script_machine.specs.declared.fault.ScriptFault.{ScriptFault as Fault};
 
@@ -25,10 +25,10 @@ fn take_line<'a>(
     tables: &mut Tables,
     statements: &mut Vec<NumberedStatement<'a>>,
 ) -> Result<(), ScriptError>
-    ensures fault { (f : Fault) → result ≡ Err (ScriptError.Fault f) → fault_of line tables.old (line_says (words_of front.now)) ≡ Some f }
-    ensures clean { OnOk result (fault_of line tables.old (line_says (words_of front.now)) ≡ None) }
-    ensures tables { OnOk result (tables.new ≡ grown_by tables.old (numbered_of line (line_says (words_of front.now)))) }
-    ensures statements { OnOk result (map numbered statements.new.items ≡ map numbered statements.old.items ++ option_to_list (numbered_of line (line_says (words_of front.now)))) }
+    ensures fault { (f : Fault) → result ≡ Err (ScriptError.Fault f) → fault_of line tables.old (words_say (words_of front.now)) ≡ Some f }
+    ensures clean { OnOk result (fault_of line tables.old (words_say (words_of front.now)) ≡ None) }
+    ensures tables { OnOk result (tables.new ≡ grown_by tables.old (numbered_of line (words_say (words_of front.now)))) }
+    ensures statements { OnOk result (map numbered statements.new.items ≡ map numbered statements.old.items ++ option_to_list (numbered_of line (words_say (words_of front.now)))) }
 {
     match line_statement(front) {
         None => Ok(()),

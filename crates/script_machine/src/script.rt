@@ -29,11 +29,11 @@ impl Model for Script {
 
     ghost Value = { Script };
 
-    ghost use Rattle.script_machine.specs.Kept.{script_of, IsSound};
+    ghost use Rattle.script_machine.specs.Kept.{script_of, IsKeptScript};
 
     ghost view = { script_of };
 
-    ghost invariant = { IsSound };
+    ghost invariant = { IsKeptScript };
 }
 
 impl Script {

@@ -1,7 +1,7 @@
 //! What a reader of scripts knows of the lines so far.
 
 ghost use Rattle.std.specs.Prelude.{◌≡◌, true, not, cond, is_none, OnOk, IfOk, IfSome, Err, reverse, [], Option, Some, None};
-ghost use Rattle.script_machine.specs.ScriptText.{is_among, thread_name, statement_fault, tables_of, grown, with_name, or_else, fault_if, open_after, number_in, open_fault};
+ghost use Rattle.script_machine.specs.ScriptText.{is_among, thread_name, statement_fault, tables_of, grown, with_optional, or_else, fault_if, open_after, number_in, open_fault};
 ghost use Rattle.sp_base.specs.declared.limits.TheConstants.{MAX_THREADS, MAX_LOCKS, MAX_VARS};
 ghost use Rattle.script_machine.specs.Said.{said};
 ghost use Rattle.script_machine.specs.Known.{IsKnown};
@@ -152,7 +152,7 @@ impl Tables {
     fn number_thread(&mut self, line: u32, name: &[u8]) -> Result<(), ScriptError>
         ensures fault { (f : Fault) → result ≡ Err (ScriptError.Fault f) → or_else (fault_if (is_among name.now self.old.threads) line TwiceNamed) (over_fault line (Some name.now) self.old.threads MAX_THREADS) ≡ Some f }
         ensures clean { OnOk result (or_else (fault_if (is_among name.now self.old.threads) line TwiceNamed) (over_fault line (Some name.now) self.old.threads MAX_THREADS) ≡ None) }
-        ensures taken { OnOk result (self.new ≡ record self.old { threads = with_name (Some name.now) self.old.threads }) }
+        ensures taken { OnOk result (self.new ≡ record self.old { threads = with_optional (Some name.now) self.old.threads }) }
     {
         let threads = self.names.threads();
         if let Err(fault) = self.names.thread(name) {
@@ -171,7 +171,7 @@ impl Tables {
     fn number_lock(&mut self, line: u32, name: &[u8]) -> Result<(), ScriptError>
         ensures fault { (f : Fault) → result ≡ Err (ScriptError.Fault f) → over_fault line (Some name.now) self.old.locks MAX_LOCKS ≡ Some f }
         ensures clean { OnOk result (over_fault line (Some name.now) self.old.locks MAX_LOCKS ≡ None) }
-        ensures taken { OnOk result (self.new ≡ record self.old { locks = with_name (Some name.now) self.old.locks }) }
+        ensures taken { OnOk result (self.new ≡ record self.old { locks = with_optional (Some name.now) self.old.locks }) }
     {
         if let Err(fault) = self.names.lock(name) {
             return Err(name_error(line, fault));
@@ -183,7 +183,7 @@ impl Tables {
     fn number_variable(&mut self, line: u32, name: &[u8]) -> Result<(), ScriptError>
         ensures fault { (f : Fault) → result ≡ Err (ScriptError.Fault f) → over_fault line (Some name.now) self.old.variables MAX_VARS ≡ Some f }
         ensures clean { OnOk result (over_fault line (Some name.now) self.old.variables MAX_VARS ≡ None) }
-        ensures taken { OnOk result (self.new ≡ record self.old { variables = with_name (Some name.now) self.old.variables }) }
+        ensures taken { OnOk result (self.new ≡ record self.old { variables = with_optional (Some name.now) self.old.variables }) }
     {
         if let Err(fault) = self.names.var(name) {
             return Err(name_error(line, fault));

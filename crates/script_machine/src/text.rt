@@ -1,12 +1,13 @@
 //! The words of a script text.
 
-ghost use Rattle.std.specs.Prelude.{◌≡◌, ◌<◌, ◌≤◌, not, ◌||◌, ◌==◌, length, [], ◌∷◌, MatchOption};
+ghost use Rattle.std.specs.Prelude.{◌≡◌, ◌<◌, ◌≤◌, not, length, [], ◌∷◌, MatchOption};
 ghost use Rattle.std.specs.List.{prefix_len};
-ghost use Rattle.script_machine.specs.ScriptText.{is_blank, is_digit, is_name, words_of, number_of, name_in, number_in_words, no_more, with_ok, statement_of, write_of};
+ghost use Rattle.script_machine.specs.ScriptText.{is_blank, words_of, name_in, number_in_words, no_more, with_ok, statement_of, write_of};
 ghost use Rattle.script_machine.specs.Said.{said};
 
 use crate::ScriptKind;
-use sp_base::MAX_NAME;
+use sp_base::read_number;
+use trace_laws::is_name;
 
 /// The most times that a block is repeated.
 pub const MAX_TIMES: u64 = 65_536;
@@ -55,53 +56,6 @@ pub fn first_word(line: &[u8]) -> Option<(&[u8], &[u8])>
     Some((&line[..end], &line[end..]))
 }
 
-fn is_digit(b: u8) -> bool
-    ensures { result ≡ is_digit b }
-{
-    b >= b'0' && b <= b'9'
-}
-
-/// The number that digits spell, where it is at most the bound.
-pub fn number(word: &[u8], bound: u64) -> Option<u64>
-    ensures { result ≡ number_of bound word.now }
-{
-    if word.is_empty() {
-        return None;
-    }
-    let mut n = 0u128;
-    for b in word {
-        if !is_digit(*b) {
-            return None;
-        }
-        n = n * 10 + u128::from(*b - b'0');
-        if n > u128::from(bound) {
-            return None;
-        }
-    }
-    Some(n as u64)
-}
-
-fn is_name_byte(b: u8) -> bool
-    ensures { result ≡ not (b == 124 || b == 40 || b == 41) }
-{
-    !(b == b'|' || b == b'(' || b == b')')
-}
-
-/// Whether a word is a name.
-pub fn is_name(word: &[u8]) -> bool
-    ensures { result ≡ is_name word.now }
-{
-    if word.is_empty() || word.len() > MAX_NAME {
-        return false;
-    }
-    for b in word {
-        if !is_name_byte(*b) {
-            return false;
-        }
-    }
-    true
-}
-
 /// What a line says; names are words of the text.
 #[derive(Clone, Copy, Debug)]
 pub enum Statement<'a> {
@@ -143,7 +97,7 @@ fn one_number(words: &[u8], bound: u64) -> Result<u64, ScriptKind>
     if first_word(rest).is_some() {
         return Err(ScriptKind::Operand);
     }
-    match number(word, bound) {
+    match read_number(word, bound) {
         Some(n) => Ok(n),
         None => Err(ScriptKind::Number),
     }
@@ -221,7 +175,7 @@ fn write<'a>(words: &'a [u8]) -> Result<Statement<'a>, ScriptKind>
     if first_word(more).is_some() || !is_name(name) {
         return Err(ScriptKind::Operand);
     }
-    match number(word, u64::MAX) {
+    match read_number(word, u64::MAX) {
         Some(n) => Ok(Statement::WriteNumber(name, n)),
         None => Err(ScriptKind::Number),
     }

@@ -14,7 +14,7 @@ use Rattle.trace_laws.specs.Trace.{IsJoined, IsForked, HasStarted, MayFollow}
 use Rattle.trace_laws.specs.Faults.{Built, Judges, OperationFault, BreaksFirst, IsRefusedFor}
 use Rattle.trace_laws.proofs.Refusals.{refused_not_accepted}
 use Rattle.trace_laws.proofs.Places.{event_of, op_from_event, thread_from_event, mapped_from}
-use Rattle.std_text.specs.Law.{holder, Tells, is_fork_of, is_join_of, is_forked, is_joined, has_started, acquire_fault, release_fault, fork_fault, operation_fault, IsFirstBroken, ComputesLaws}
+use Rattle.std_text.specs.Law.{holder, Tells, is_fork_of, is_join_of, was_forked, is_joined, has_started, acquire_fault, release_fault, fork_fault, operation_fault, IsFirstBroken, ComputesLaws}
 
 -- ---- what stands before an event
 
@@ -56,12 +56,12 @@ join_told u (Release l) h = absurd (true≢false (sym h))
 
 module _ (events : List Event) (u : ℕ) where
   -- a thread that is computed as forked is forked
-  forked_is : is_forked events u ≡ true → IsForked events (length events) u
+  forked_is : was_forked events u ≡ true → IsForked events (length events) u
   forked_is h = let m = place_of (λ e. is_fork_of u e.op) events h in
       (m.0, slice_get_within events m.0 m.1 m.2, op_from_event events m.0 m.1 m.2 ∙ ap Some (fork_told u m.1.op m.3))
 
   -- and no other one
-  forked_not : is_forked events u ≡ false → IsForked events (length events) u → ⊥
+  forked_not : was_forked events u ≡ false → IsForked events (length events) u → ⊥
   forked_not none f = let e = event_of events f.0 (Fork u) f.2 in
       none_passes (λ e. is_fork_of u e.op) events f.0 e.0 none e.1 (subst (λ (o : Op). is_fork_of u o ≡ true) (sym e.2) (eq-eqb u u refl))
 
@@ -115,15 +115,15 @@ module _ (events : List Event) (t : ℕ) (tells : Tells events) where
       late other joined forked true is = (other, joined, forked, started_is events u is)
       late other joined forked false is = (tt, (other, joined, forked, started_not events u is))
 
-      twice : (u ≢ t) → ¬ (IsJoined events (length events) u) → (b : Bool) → is_forked events u ≡ b
+      twice : (u ≢ t) → ¬ (IsJoined events (length events) u) → (b : Bool) → was_forked events u ≡ b
           → Judges events t (Fork u) (cond b (Some law.ForkTwice) (cond (has_started events u) (Some law.ForkLate) None))
       twice other joined true is = (other, joined, forked_is events u is)
       twice other joined false is = late other joined (forked_not events u is) (has_started events u) refl
 
       after : (u ≢ t) → (b : Bool) → is_joined events u ≡ b
-          → Judges events t (Fork u) (cond b (Some law.AfterJoin) (cond (is_forked events u) (Some law.ForkTwice) (cond (has_started events u) (Some law.ForkLate) None)))
+          → Judges events t (Fork u) (cond b (Some law.AfterJoin) (cond (was_forked events u) (Some law.ForkTwice) (cond (has_started events u) (Some law.ForkLate) None)))
       after other true is = (other, joined_is events u is)
-      after other false is = twice other (joined_not events u is) (is_forked events u) refl
+      after other false is = twice other (joined_not events u is) (was_forked events u) refl
 
       at : (u ≡ t) ⊎ (u ≢ t) → Judges events t (Fork u) (fork_fault events t u)
       at (inl same) = rw (eq-eqb u t same) same

@@ -1,4 +1,3 @@
-pub mod Numbers
 pub mod TextPieces
 pub mod NamedLemmas
 pub mod HolderLemmas

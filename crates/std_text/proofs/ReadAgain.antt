@@ -14,11 +14,12 @@ use Rattle.sp_base.specs.declared.limits.TheConstants.{MAX_EVENTS, MAX_THREADS, 
 use Rattle.trace_laws.specs.Event.{Event}
 use Rattle.trace_laws.specs.declared.event.Op.{Op}
 use Rattle.trace_laws.specs.declared.event.Op.TheVariants.{Read, Write, Acquire, Release, Fork, Join}
-use Rattle.trace_laws.specs.Names.{NameLists, number_of, with_name}
+use Rattle.sp_base.specs.Digits.{is_digit}
+use Rattle.trace_laws.specs.Names.{NameLists, is_name, number_of, with_name}
 use Rattle.trace_laws.specs.Trace.{Lawful}
 use Rattle.std_text.specs.declared.fields.Action.{Action}
 use Rattle.std_text.specs.declared.fields.Action.TheVariants as action
-use Rattle.std_text.specs.Fields.{Parts, bar, opening, closing, is_name, is_digit}
+use Rattle.std_text.specs.Fields.{Parts, bar, opening, closing}
 use Rattle.std_text.specs.Law.{Tells, law_fault}
 use Rattle.std_text.specs.Meaning.{Reading, read_parts, event_of, with_thread, with_lock, with_var, with_operand, with_names, fits, op_on}
 use Rattle.std_text.specs.Refusal.{◌>>=◌}

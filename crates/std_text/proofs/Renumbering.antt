@@ -5,7 +5,7 @@ use Rattle.trace_laws.specs.Event.{Event}
 use Rattle.trace_laws.specs.declared.event.Op.{Op}
 use Rattle.trace_laws.specs.declared.event.Op.TheVariants.{Read, Write, Acquire, Release, Fork, Join}
 use Rattle.trace_laws.specs.declared.builder.LawFault.TheVariants as law
-use Rattle.std_text.specs.Law.{held_after, holder_from, holder, is_fork_of, is_join_of, is_forked, is_joined, has_started, acquire_fault, release_fault, operation_fault, law_fault}
+use Rattle.std_text.specs.Law.{held_after, holder_from, holder, is_fork_of, is_join_of, was_forked, is_joined, has_started, acquire_fault, release_fault, operation_fault, law_fault}
 use Rattle.std_text.proofs.Numbering.{has, place, with_number, has_new, has_more, place_more, same_place}
 
 -- the numbers that came, of each kind
@@ -160,7 +160,7 @@ module _ (g : Came) where
   join_same t (Release l) h k = refl
 
   -- the marks of a thread
-  forked_same : (events : List Event) (t : ℕ) → HaveAll g events → has g.threads t ≡ true → is_forked (map (event_with g) events) (place g.threads t) ≡ is_forked events t
+  forked_same : (events : List Event) (t : ℕ) → HaveAll g events → has g.threads t ≡ true → was_forked (map (event_with g) events) (place g.threads t) ≡ was_forked events t
   forked_same [] t h k = refl
   forked_same (e ∷ events) t h k = rw (fork_same t e.op h.0.operand k, forked_same events t h.1 k) refl
 

@@ -4,11 +4,13 @@ use Rattle.std.specs.Prelude.{nat_lt, slice_index}
 use Rattle.std.specs.List.{list_all, position_or_len}
 use Rattle.std.specs.Fmt.{decimal}
 use Rattle.std.proofs.lemmas.Bool.{lt-ltb, ltb-true, le-leb, leb-true}
-use Rattle.std.proofs.lemmas.Fmt.{digits_decimal, digits_value-decimal}
+use Rattle.std.proofs.lemmas.Fmt.{decimal_nonempty, digits_decimal, digits_value-decimal}
 use Rattle.std.proofs.lemmas.Str.Parse.{IsDigitsTest, IsNumeralModel, numerals_by_fold}
 use Rattle.std.proofs.Math.Seq.{take-append_seam, drop-append-add}
+use Rattle.sp_base.specs.Digits.{is_digit, number_after}
+use Rattle.trace_laws.specs.Names.{is_name_byte, is_name}
 use Rattle.std_text.specs.declared.fields.Action.{Action}
-use Rattle.std_text.specs.Fields.{bar, opening, closing, split_first, split_last, before_first, location_field, is_name_byte, is_name, action_of, is_skipped, is_digit, number_after, location_of, event_says, line_says}
+use Rattle.std_text.specs.Fields.{bar, opening, closing, split_first, split_last, before_first, location_field, action_of, is_skipped, location_written, event_says, line_says}
 
 -- ---- tests
 
@@ -107,7 +109,7 @@ list_all-both p (x ∷ xs) ys a b = let parts = both (p x) (list_all p xs) a in 
 
 -- what a written line says
 pub says : (name word operand place : List ℕ) (action : Action) → is_name name ≡ true → is_name operand ≡ true → Says word action
-    → line_says (name ++ (bar ∷ (word ++ (opening ∷ (operand ++ closing ∷ bar ∷ place))))) ≡ Ok (Some (record { thread = name; action = action; operand = operand; location = location_of place }))
+    → line_says (name ++ (bar ∷ (word ++ (opening ∷ (operand ++ closing ∷ bar ∷ place))))) ≡ Ok (Some (record { thread = name; action = action; operand = operand; location = location_written place }))
 unfolding line_says event_says
 says name word operand place action is_thread is_operand s =
     let field : List ℕ = word ++ (opening ∷ (operand ++ closing ∷ [])) in
@@ -145,12 +147,12 @@ numbers : IsNumeralModel (λ ds. list_all is_digit ds ≡ true) (number_after 0)
 numbers = numerals_by_fold (λ ds. list_all is_digit ds ≡ true) digits number_after (record { empty = λ n. refl; more = λ n c cs k. refl })
 
 -- a written location is read as the number
-pub location_is : (n : ℕ) → n < (2 ^ 32) → location_of (decimal n) ≡ n
-unfolding location_of
+pub location_is : (n : ℕ) → n < (2 ^ 32) → location_written (decimal n) ≡ n
+unfolding location_written
 location_is n fits =
     let all = digits_decimal numbers n (omega arith) in
     let value = digits_value-decimal numbers n (omega arith) in
-    rw (all, value, lt-ltb n (2 ^ 32) fits) refl
+    rw (lt-ltb 0 (length (decimal n)) (decimal_nonempty n (omega arith)), all, value, le-leb n (2 ^ 32 - 1) (omega arith)) refl
 
 -- its bytes are digits
 pub all_digits : (n : ℕ) → n < (2 ^ 32) → list_all is_digit (decimal n) ≡ true

@@ -1,11 +1,11 @@
 -- The fields of a trace line: thread|word(operand)|location
-use Rattle.std.specs.Prelude.{ℕ, ◌-◌, ◌+◌, ◌*◌, ◌^◌, Bool, List, [], ◌∷◌, ◌==◌, ◌&&◌, ◌||◌, not, length, take, drop, position, slice_index, nat_lt, nat_le, nat_eq, if◌then◌else◌, option_and_then, codes, Result, Ok, Err}
+use Rattle.std.specs.Prelude.{ℕ, ◌-◌, ◌+◌, ◌^◌, Bool, List, [], ◌==◌, ◌&&◌, ◌||◌, not, length, take, drop, position, slice_index, nat_lt, nat_eq, if◌then◌else◌, option_and_then, codes, Result, Ok, Err}
 use Rattle.std.specs.declared.option.Option.{Option}
 use Rattle.std.specs.declared.option.Option.TheVariants.{None, Some}
-use Rattle.std.specs.List.{list_all}
-use Rattle.std.specs.Option.{option_map, option_map_or}
+use Rattle.std.specs.Option.{option_map, option_map_or, unwrap_or}
 use Rattle.std.specs.Cmp.Lexicographic.{pointwise}
-use Rattle.sp_base.specs.declared.limits.TheConstants.{MAX_NAME}
+use Rattle.sp_base.specs.Digits.{number_written}
+use Rattle.trace_laws.specs.Names.{is_name}
 use Rattle.std_text.specs.declared.fields.Action.{Action}
 use Rattle.std_text.specs.declared.fields.Action.TheVariants.{Read, Write, Acquire, Release, Fork, Join}
 use Rattle.std_text.specs.declared.fault.StdKind.{StdKind}
@@ -38,14 +38,6 @@ split_last at bytes =
     if nat_lt 0 (length bytes) && (slice_index bytes (length bytes - 1) == at)
     then Some (take (length bytes - 1) bytes)
     else None
-
--- a byte that a name may have: no newline, parenthesis or bar
-abbrev pub is_name_byte : ℕ → Bool
-is_name_byte b = not (b == newline) && (not (b == opening) && (not (b == closing) && not (b == bar)))
-
--- a name: at least one such byte, and no more than the limit
-abbrev pub is_name : List ℕ → Bool
-is_name bytes = nat_lt 0 (length bytes) && (nat_le (length bytes) MAX_NAME && list_all is_name_byte bytes)
 
 -- what the word of an operation says
 abbrev pub action_of : List ℕ → Option Action
@@ -82,36 +74,27 @@ abbrev pub location_field : List ℕ → List ℕ
 location_field bytes = option_map_or (λ i. drop (i + 1) bytes) (position (λ b. b == bar) bytes) []
 
 -- the word of an operation field: what stands before its first opening parenthesis, or all of it where it has none
-abbrev pub word_of : List ℕ → List ℕ
-word_of field = before_first opening field
+abbrev pub operation_word : List ℕ → List ℕ
+operation_word field = before_first opening field
 
 -- the operand of an operation field: what stands between its first opening parenthesis and a closing one at its end
 abbrev pub operand_of : List ℕ → Option (List ℕ)
 operand_of field = option_and_then (λ halves. split_last closing halves.1) (split_first opening field)
 
--- a decimal digit, `0` to `9`
-abbrev pub is_digit : ℕ → Bool
-is_digit b = nat_le 48 b && nat_le b 57
-
--- the number that digits after those of n write
-abbrev pub number_after : ℕ → List ℕ → ℕ
-number_after n [] = n
-number_after n (b ∷ bs) = number_after (n * 10 + (b - 48)) bs
-
 -- the location is the field's number, or 0 where it is none or needs more than 32 bits
-unfoldable pub location_of : List ℕ → ℕ
-location_of field = if list_all is_digit field && nat_lt (number_after 0 field) (2 ^ 32) then number_after 0 field else 0
+unfoldable pub location_written : List ℕ → ℕ
+location_written field = unwrap_or (number_written (2 ^ 32 - 1) field) 0
 
 -- what a line says whose word is not one of those skipped: its parts, or the first fault of its thread, word and operand
 unfoldable pub event_says : List ℕ → List ℕ → List ℕ → Result (Option Parts) StdKind
 event_says thread operation location =
     if not (is_name thread) then Err BadName
-    else (or_refused UnknownOperation (action_of (word_of operation)) >>= λ action. or_refused BadOperand (operand_of operation) >>= λ operand.
-    if is_name operand then Ok (Some (record { thread = thread; action = action; operand = operand; location = location_of location })) else Err BadName)
+    else (or_refused UnknownOperation (action_of (operation_word operation)) >>= λ action. or_refused BadOperand (operand_of operation) >>= λ operand.
+    if is_name operand then Ok (Some (record { thread = thread; action = action; operand = operand; location = location_written location })) else Err BadName)
 
 -- what a line says that is not empty: the parts of an event, or nothing where it is skipped, or its fault
 unfoldable pub line_says : List ℕ → Result (Option Parts) StdKind
 line_says line =
     or_refused NoBar (split_first bar line) >>= λ fields.
-    if is_skipped (word_of (operation_field fields.1)) then Ok None
+    if is_skipped (operation_word (operation_field fields.1)) then Ok None
     else event_says fields.0 (operation_field fields.1) (location_field fields.1)

@@ -111,7 +111,7 @@ abbrev pub read_event : Reading → List ℕ → Result Reading Refusal
 read_event r content = read_said r (line_says content)
 
 -- what a reading in code keeps: room for all events, names for all that they name, and the holders as they are computed
-pub record IsSound (capacity : ℕ) (events : List Event) (names : NameLists) : Type 0 where
+pub record IsKeptReading (capacity : ℕ) (events : List Event) (names : NameLists) : Type 0 where
   pub capacity_is : capacity ≡ MAX_EVENTS
   pub named : AreNamed names events
   pub tells : Tells events

@@ -2,9 +2,8 @@
 use Rattle.std.specs.Prelude.{◌≡◌, ◌<◌, ◌≤◌, ◌^◌, ℕ, List, length, true, Some, slice_get, Ok}
 use Rattle.sp_base.specs.declared.limits.TheConstants.{MAX_EVENTS, MAX_THREADS, MAX_LOCKS, MAX_VARS, MAX_INPUT}
 use Rattle.trace_laws.specs.Event.{Event}
-use Rattle.trace_laws.specs.Names.{NameLists}
+use Rattle.trace_laws.specs.Names.{NameLists, is_name}
 use Rattle.trace_laws.specs.Trace.{Lawful}
-use Rattle.std_text.specs.Fields.{is_name}
 use Rattle.std_text.specs.Framing.{Progress, start, after, closed}
 use Rattle.std_text.specs.Refusal.{◌>>=◌}
 use Rattle.std_text.specs.Writing.{name_at, word_of, operand_name, IsNamed, trace_text}

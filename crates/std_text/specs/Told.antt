@@ -40,8 +40,8 @@ ReadsFrom (Ok p) names step new = Gives new.read new.names (step p)
 ReadsFrom (Err fault) names step new = (new.read ≡ Err fault) × (new.names ≡ names)
 
 -- a reader went on by a step of the text; after a fault it stays as it is
-abbrev pub Reads : Told → (Progress → Result Progress Refusal) → Told → Type 0
-Reads old step new = ReadsFrom old.read old.names step new
+abbrev pub ReadsOn : Told → (Progress → Result Progress Refusal) → Told → Type 0
+ReadsOn old step new = ReadsFrom old.read old.names step new
 
 -- how far a reader came, if it did not fail
 abbrev pub read_of : Option ReadFault → Progress → Result Progress ReadFault

@@ -22,13 +22,13 @@ pub struct LineReader {
 }
 
 impl Model for LineReader {
-    ghost use Rattle.std_text.specs.Meaning.{Reading, IsSound};
+    ghost use Rattle.std_text.specs.Meaning.{Reading, IsKeptReading};
 
     ghost Value = { Reading };
 
     ghost view = { λ r. record { events = r.builder.events; names = r.names; line = r.line } };
 
-    ghost invariant = { λ r. IsSound r.builder.capacity r.builder.events r.names };
+    ghost invariant = { λ r. IsKeptReading r.builder.capacity r.builder.events r.names };
 }
 
 // The operation on an operand, whose name gets a number.

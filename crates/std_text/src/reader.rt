@@ -1,7 +1,7 @@
 // The reader of a trace text.
 ghost use Rattle.std.specs.Prelude.{◌≡◌, true, false, Ok, IsOk, IfOk, IfErr, length};
 ghost use Rattle.std_text.specs.Framing.{after, closed};
-ghost use Rattle.std_text.specs.Told.{Reads, answer_of, IsHolderKnown};
+ghost use Rattle.std_text.specs.Told.{ReadsOn, answer_of, IsHolderKnown};
 ghost use Rattle.std_text.specs.Writing.{AreNamed};
 
 use crate::fault::ReadFault;
@@ -80,7 +80,7 @@ impl Reader {
     /// Takes the next bytes. It answers `Text` exactly where the text so far is refused, whose fault is known with them.
     pub fn feed(&mut self, piece: &[u8]) -> Result<(), ReadFault>
         requires { self.old.closed ≡ false }
-        ensures read { Reads self.old (λ p. after p piece.now) self.new }
+        ensures read { ReadsOn self.old (λ p. after p piece.now) self.new }
         ensures answer { result ≡ answer_of self.new.read }
         ensures holder { IfErr result (IsHolderKnown self.new.names) }
         ensures closed { self.new.closed ≡ false }
@@ -95,7 +95,7 @@ impl Reader {
 
     /// Takes what is left as the last line. It answers `Text` exactly where the whole text is refused.
     pub fn close(&mut self) -> Result<(), ReadFault>
-        ensures read { Reads self.old closed self.new }
+        ensures read { ReadsOn self.old closed self.new }
         ensures answer { result ≡ answer_of self.new.read }
         ensures holder { IfErr result (IsHolderKnown self.new.names) }
         ensures closed { self.new.closed ≡ true }

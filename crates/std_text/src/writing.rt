@@ -7,8 +7,8 @@ use sp_base::{OutOfMemory, ThreadId};
 use std::alloc::Global;
 use trace_laws::{Event, Names, Op};
 
-// The word of an operation.
-fn word(op: &Op) -> &'static str
+/// The word of an operation: `r`, `w`, `acq`, `rel`, `fork` or `join`.
+pub fn op_word(op: &Op) -> &'static str
     ensures { result.now ≡ word_of op.now }
 {
     match op {
@@ -38,7 +38,7 @@ fn op_of(alloc: Global, op: &Op, names: &Names) -> Result<Vec<u8>, OutOfMemory>
     requires { IsOperandNamed names.now op.now }
     ensures { IfOk result (λ text. text.items ≡ op_text names.now op.now) }
 {
-    let mut text = word(op).as_bytes().to_vec(alloc)?;
+    let mut text = op_word(op).as_bytes().to_vec(alloc)?;
     text.extend_from_slice(b"(")?;
     text.extend_from_slice(operand(op, names))?;
     text.extend_from_slice(b")")?;

@@ -8,7 +8,7 @@ use Rattle.sp_base.specs.declared.limits.TheConstants.{MAX_INPUT}
 use Rattle.trace_laws.specs.Names.{NameLists}
 use Rattle.trace_laws.specs.Traces.{History}
 use Rattle.std_text.specs.Framing.{Progress, start, after, closed}
-use Rattle.std_text.specs.Told.{Told, Failed, Gives, Reads, ReadsFrom, answer_of}
+use Rattle.std_text.specs.Told.{Told, Failed, Gives, ReadsOn, ReadsFrom, answer_of}
 use Rattle.std_text.specs.Refusal.{Refusal}
 use Rattle.std_text.specs.declared.fault.ReadFault.{ReadFault}
 use Rattle.std_text.specs.declared.fault.ReadFault.TheVariants as read
@@ -68,7 +68,7 @@ answered_err (Ok q) names x f gives e = cc
 answered_err (Err h) names x f gives e = let same : h ≡ f = cc in subst (λ v. Failed v names x) same gives
 
 -- a reader that has not failed goes on by the step
-gives_at : (old new : Told) (step : Progress → Result Progress Refusal) (p : Progress) → old.read ≡ Ok p → Reads old step new → Gives new.read new.names (step p)
+gives_at : (old new : Told) (step : Progress → Result Progress Refusal) (p : Progress) → old.read ≡ Ok p → ReadsOn old step new → Gives new.read new.names (step p)
 gives_at old new step p is reads = subst (λ r. ReadsFrom r old.names step new) is reads
 
 -- a refusal, as the program tells it
@@ -90,7 +90,7 @@ tells_refusal read.OutOfMemory Read names x failed tells = absurd tells
 tells_refusal read.OutOfMemory Write names x failed tells = absurd tells
 tells_refusal read.OutOfMemory OutOfMemory names x failed tells = tt
 
-module _ (old new : Told) (step : Progress → Result Progress Refusal) (reads : Reads old step new) (p : Progress) (at_p : old.read ≡ Ok p) where
+module _ (old new : Told) (step : Progress → Result Progress Refusal) (reads : ReadsOn old step new) (p : Progress) (at_p : old.read ≡ Ok p) where
   -- the step was taken
   pub taken : (u : Unit {0}) → Ok u ≡ answer_of new.read → GoesOn (step p) new (Ok tt)
   taken u answer = answered_ok new.read new.names (step p) u (gives_at old new step p at_p reads) answer

@@ -1,6 +1,6 @@
 use Rattle.std.proofs.Common.{◌≡◌, ℕ, ◌+◌, ◌≤◌, length, List, [], ◌∷◌, ◌++◌, take, drop, Err, option_to_list, sym, ap, ◌∙◌, below_more, arith}
 use Rattle.std.proofs.lemmas.List.{take_all, length-drop}
-use Rattle.script_machine.specs.ScriptText.{lines_of, words_of, line_says, statements_of, tables_of, numbered_of}
+use Rattle.script_machine.specs.ScriptText.{lines_of, words_of, words_say, statements_of, tables_of, numbered_of}
 use Rattle.script_machine.specs.Spoken.{grown_by}
 use Rattle.std.proofs.lemmas.Result.{err_from_is_err_and}
 use Rattle.script_machine.specs.declared.fault.ScriptError.TheVariants as ScriptError
@@ -17,9 +17,9 @@ loop-front-preserved c =
     record {
       left = drop_next lines k c.in-Some.front.now (lines_of c.in-Some.after.now) here;
       room = omega (arith, c.loop-front.invariant.room, c.in-Some.ensures.shorter);
-      statements = c.in_ok-take_line.ensures.statements ∙ ap (λ xs. xs ++ option_to_list (numbered_of (k + 1) (line_says (words_of c.in-Some.front.now)))) c.loop-front.invariant.statements ∙ sym more;
-      tables = c.in_ok-take_line.ensures.tables ∙ ap (λ t. grown_by t (numbered_of (k + 1) (line_says (words_of c.in-Some.front.now)))) c.loop-front.invariant.tables
-          ∙ sym (tables_more (statements_of (take k lines)) (numbered_of (k + 1) (line_says (words_of c.in-Some.front.now)))) ∙ ap tables_of (sym more);
+      statements = c.in_ok-take_line.ensures.statements ∙ ap (λ xs. xs ++ option_to_list (numbered_of (k + 1) (words_say (words_of c.in-Some.front.now)))) c.loop-front.invariant.statements ∙ sym more;
+      tables = c.in_ok-take_line.ensures.tables ∙ ap (λ t. grown_by t (numbered_of (k + 1) (words_say (words_of c.in-Some.front.now)))) c.loop-front.invariant.tables
+          ∙ sym (tables_more (statements_of (take k lines)) (numbered_of (k + 1) (words_say (words_of c.in-Some.front.now)))) ∙ ap tables_of (sym more);
       clean = below_more _ _ c.loop-front.invariant.clean (fault ∙ c.in_ok-take_line.ensures.clean);
     }
 
