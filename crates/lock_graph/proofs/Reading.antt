@@ -64,10 +64,6 @@ module _ (x : Inside) (g : Graph) (view : graph_in x ≡ g) where
         let same : class_in e ≡ c = cc in
         subst (λ (k : Class). IsOfClass g.trace.events k p) same (first_read n p e less read first)
 
--- a class is there
-pub class_there : (classes : List Class) (n : ℕ) → n < length classes → (c : Class) × (slice_get classes n ≡ Some c)
-class_there classes n within = let d : Class = record { thread = 0; lock = 0; held = []; acquires = [] } in (get_or classes n d, slice_get-get_or classes n d within)
-
 -- the held set of a class has a lock exactly where that of one of its acquires has it
 pub holds_tells : (events : List Event) (c : Class) (p l : ℕ) (r : Bool) → IsOfClass events c p → (IsTrue r ↔ IsHeldAt events p l) → IsTrue r ↔ Contains c.held l
 holds_tells events c p l r of_class tells = (λ t. (held_of_class events c p of_class l).1 (tells.0 t), λ h. tells.1 ((held_of_class events c p of_class l).0 h))

@@ -23,8 +23,8 @@ pub record AreClasses (events : List Event) (classes : List Class) : Type 0 wher
   pub members : (c : Class) → Contains classes c ↔ IsClass events c
   pub all : (a : ℕ) → IsAcquire events a → IsInClass classes a
 
--- the second class holds the lock of the first, and they are apart
-pub record Follows (a b : Class) : Type 0 where
+-- the first class is followed by the second in a cycle: the second holds the lock of the first, and they are apart
+pub record IsFollowedBy (a b : Class) : Type 0 where
   pub apart : AreApart a b
   pub holds : Contains b.held a.lock
 

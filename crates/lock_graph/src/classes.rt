@@ -5,7 +5,7 @@ ghost use Rattle.std.specs.Option.{option_map};
 ghost use Rattle.trace_laws.specs.Traces.{IsTrace};
 ghost use Rattle.trace_laws.specs.Patterns.{Class, IsOfClass, AreApart};
 ghost use Rattle.trace_index.specs.HeldSets.{IsAcquire};
-ghost use Rattle.lock_graph.specs.Classes.{AreClasses, HaveLocksBelow, Follows};
+ghost use Rattle.lock_graph.specs.Classes.{AreClasses, HaveLocksBelow, IsFollowedBy};
 
 use crate::entry::Entry;
 use crate::listing::Listing;
@@ -118,12 +118,12 @@ impl<'a> Classes<'a> {
         self.index().holds(self.first(class), lock)
     }
 
-    /// Whether the second class can stand next to the first in a cycle: it holds the lock of the first, and they are apart.
-    /// Both are below `len`.
+    /// Whether the first class can be followed by the second in a cycle: the second holds the lock of the first, and they are
+    /// apart. Both are below `len`.
     pub fn follows(&self, a: u32, b: u32) -> bool
         requires a { a < length self.now.classes }
         requires b { b < length self.now.classes }
-        ensures { (x y : Class) → slice_get self.now.classes a ≡ Some x → slice_get self.now.classes b ≡ Some y → IsTrue result ↔ Follows x y }
+        ensures { (x y : Class) → slice_get self.now.classes a ≡ Some x → slice_get self.now.classes b ≡ Some y → IsTrue result ↔ IsFollowedBy x y }
     {
         if !self.holds(b, self.lock(a)) {
             return false;

@@ -9,8 +9,8 @@ use Rattle.trace_laws.proofs.Places.{contains_at}
 use Rattle.lock_graph.specs.Classes.{Graph, AreClasses}
 use Rattle.pattern_walk.specs.Cycles.{class_of, classes_of, IsCycle, Precedes}
 use Rattle.pattern_walk.specs.Walks.{BeginsBelow, FoundBelow, HasMoreCycles}
-use Rattle.pattern_walk.specs.Listed.{AreListed, HasMorePatterns}
-use Rattle.pattern_walk.specs.Instances.{IsOf}
+use Rattle.pattern_walk.specs.Listed.{AreListedPatterns, HasMorePatterns}
+use Rattle.pattern_walk.specs.Instances.{IsListedPattern}
 use Rattle.pattern_walk.proofs.Lists.{all_pairs_from, all_pairs_at, map_at, contains_map, contains_mapped, not_longer}
 use Rattle.pattern_walk.proofs.PatternCycles.{cycle_numbers, pattern_from_cycle, cycle_from_pattern}
 use Rattle.pattern_walk.proofs.Preceding.{before_one_way, before_from_precedes}
@@ -81,7 +81,7 @@ more_up_to classes size most le more = record {
 }
 
 -- what the walk over all sizes found is listed
-pub is_listed : (graph : Graph) (size : ℕ) (found : List (List ℕ)) → AreClasses graph.trace.events graph.classes → FoundBelow graph.classes (size + 1) 0 found → AreListed graph size found
+pub is_listed : (graph : Graph) (size : ℕ) (found : List (List ℕ)) → AreClasses graph.trace.events graph.classes → FoundBelow graph.classes (size + 1) 0 found → AreListedPatterns graph size found
 is_listed graph size found are all = record {
   numbers = λ p c. cycle_numbers graph.classes p (all.found.cycles p c);
   patterns = patterns_whole graph.trace.events graph.classes are size found all;
@@ -92,7 +92,7 @@ pub is_all : (graph : Graph) (size : ℕ) (found : List (List ℕ)) → AreClass
 is_all graph size found are all = not_more graph.trace.events size (map (classes_of graph.classes) found) (patterns_whole graph.trace.events graph.classes are size found all) (let few = all.found.few in omega (arith, length-map found (classes_of graph.classes)))
 
 -- each list of numbers that is listed is one of a pattern
-pub of_listed : (graph : Graph) (size : ℕ) (listed : List (List ℕ)) (p : List ℕ) → AreListed graph size listed → size ≤ MAX_SIZE → Contains listed p → IsOf graph p
+pub of_listed : (graph : Graph) (size : ℕ) (listed : List (List ℕ)) (p : List ℕ) → AreListedPatterns graph size listed → size ≤ MAX_SIZE → Contains listed p → IsListedPattern graph p
 of_listed graph size listed p are le c =
     let is = (are.patterns.members (classes_of graph.classes p)).0 (contains_map (classes_of graph.classes) listed p c) in
     record { numbers = are.numbers p c; pattern = is.0; size = (let small = is.1 in omega (arith, length-map p (class_of graph.classes))) }

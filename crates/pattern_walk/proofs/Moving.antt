@@ -17,13 +17,13 @@ use Rattle.lock_graph.specs.Classes.{Graph}
 use Rattle.sp_closure.specs.Members.{PlaceSet, has, IsMemberOf, AreCounts}
 use Rattle.sp_closure.proofs.Counts.{count_under}
 use Rattle.pattern_walk.specs.Cycles.{class_of, classes_of}
-use Rattle.pattern_walk.specs.Instances.{IsOf, IsAt, AreInSet, AreAtMost, IsUnderway, HasNoDeadlock, rest_of}
+use Rattle.pattern_walk.specs.Instances.{IsListedPattern, ArePicksAt, AreInSet, AreAtMost, IsUnderway, HasNoDeadlock, rest_of}
 use Rattle.pattern_walk.proofs.Raising.{closure_moves}
 use Rattle.pattern_walk.proofs.Ordering.{read_of}
 use Rattle.pattern_walk.proofs.Picking.{number_at, zip_from, zip_size, in_order, rest_less, class_at_number, acquire_in_trace, other_pick, is_instance, under_deadlock}
 
 -- a pattern of a graph, and picks that are underway
-module _ (graph : Graph) (pattern : List ℕ) (is_of : IsOf graph pattern) (positions picks : List ℕ) (cursor : PlaceSet) (underway : IsUnderway graph pattern positions picks cursor) where
+module _ (graph : Graph) (pattern : List ℕ) (is_of : IsListedPattern graph pattern) (positions picks : List ℕ) (cursor : PlaceSet) (underway : IsUnderway graph pattern positions picks cursor) where
   -- the set of the cursor
   abbrev set : ℕ → Bool
   set = has cursor.members
@@ -89,7 +89,7 @@ module _ (graph : Graph) (pattern : List ℕ) (is_of : IsOf graph pattern) (posi
       nearer = rest_less (length graph.trace.events) picks i p q at_p is_later (let within = is_within in omega arith)
 
       -- they are at their positions
-      moved_at : IsAt graph.classes pattern (slice_set positions i m) (slice_set picks i q)
+      moved_at : ArePicksAt graph.classes pattern (slice_set positions i m) (slice_set picks i q)
       moved_at = record {
         positions = length-set positions i m ∙ underway.at.positions;
         picks = length-set picks i q ∙ underway.at.picks;
@@ -164,7 +164,7 @@ module _ (graph : Graph) (pattern : List ℕ) (is_of : IsOf graph pattern) (posi
       kept = record { size = counts_here.size; counts = λ t less. count_under (IsMemberOf graph.trace.events t set) (λ p. (thread_at graph.trace.events p ≡ Some t) × (by_closure graph.trace.events).needed picks p) (slice_index counts t) (both t) (counts_here.members t less) }
 
 -- What was read of a pattern that is underway: the acquires of the class of a number, and the position of its pick.
-module _ (graph : Graph) (pattern : List ℕ) (is_of : IsOf graph pattern) (positions picks : List ℕ) (cursor : PlaceSet) (underway : IsUnderway graph pattern positions picks cursor) (listed : List ℕ) (i : ℕ) (same : listed ≡ pattern) (number : i < length picks) where
+module _ (graph : Graph) (pattern : List ℕ) (is_of : IsListedPattern graph pattern) (positions picks : List ℕ) (cursor : PlaceSet) (underway : IsUnderway graph pattern positions picks cursor) (listed : List ℕ) (i : ℕ) (same : listed ≡ pattern) (number : i < length picks) where
   -- the number of the class
   abbrev n : ℕ
   n = slice_index listed i

@@ -16,7 +16,7 @@ use Rattle.trace_laws.proofs.Enabling.{Rises-push}
 use Rattle.trace_laws.proofs.Growing.{slice_get-set_same, slice_get-set_other}
 use Rattle.trace_laws.proofs.Judges.{dec_contains}
 use Rattle.pattern_walk.specs.Cycles.{class_of}
-use Rattle.pattern_walk.specs.Orders.{Adds, AddsBelow, AreHoldersOf, AreHolders, AreBefore}
+use Rattle.pattern_walk.specs.Orders.{AddsClass, AddsClassBelow, AreHoldersOf, AreHolders, AreBefore}
 use Rattle.pattern_walk.proofs.Lists.{all_at}
 use Rattle.pattern_walk.proofs.PatternCycles.{class_is}
 
@@ -35,7 +35,7 @@ written {X} xs l k x y within at = go (cases_eq k l)
 -- a class is added to the list of each of some locks
 module _ (old : List (Vec ℕ Global)) (locks : List ℕ) (class : ℕ) where
   -- of one more
-  pub adds_more : (k lock : ℕ) (now : List (Vec ℕ Global)) (w x : Vec ℕ Global) → Rises locks → AddsBelow old locks class k now → slice_get locks k ≡ Some lock → slice_get now lock ≡ Some w → x.items ≡ w.items ++ class ∷ [] → AddsBelow old locks class (k + 1) (slice_set now lock x)
+  pub adds_more : (k lock : ℕ) (now : List (Vec ℕ Global)) (w x : Vec ℕ Global) → Rises locks → AddsClassBelow old locks class k now → slice_get locks k ≡ Some lock → slice_get now lock ≡ Some w → x.items ≡ w.items ++ class ∷ [] → AddsClassBelow old locks class (k + 1) (slice_set now lock x)
   adds_more k lock now w x rises adds at_lock at_w grown = record {
     size = length-set now lock x ∙ adds.size;
     added = λ j l v y less at_l at_v at_y. added j l v y less at_l at_v at_y (cases_eq j k);
@@ -69,7 +69,7 @@ module _ (old : List (Vec ℕ Global)) (locks : List ℕ) (class : ℕ) where
           go (inr h) = adds.added j l v y before at_l at_v h.1
 
   -- of all
-  pub adds_all : (k : ℕ) (now : List (Vec ℕ Global)) → length locks ≤ k → AddsBelow old locks class k now → Adds old locks class now
+  pub adds_all : (k : ℕ) (now : List (Vec ℕ Global)) → length locks ≤ k → AddsClassBelow old locks class k now → AddsClass old locks class now
   adds_all k now all adds = record {
     size = adds.size;
     added = λ l v w c at_v at_w. let at = index_of locks l c in let within = slice_get_within locks at.0 l at.1 in adds.added at.0 l v w (omega arith) at.1 at_v at_w;
@@ -87,7 +87,7 @@ holders_none classes holders locks empty = record {
 }
 
 -- the next class is added to the locks that it holds
-pub holders_next : (classes : List Class) (n : ℕ) (holders more : List (Vec ℕ Global)) (held : List ℕ) → (class_of classes n).held ≡ held → AreHolders classes n holders → Adds holders held n more → AreHolders classes (n + 1) more
+pub holders_next : (classes : List Class) (n : ℕ) (holders more : List (Vec ℕ Global)) (held : List ℕ) → (class_of classes n).held ≡ held → AreHolders classes n holders → AddsClass holders held n more → AreHolders classes (n + 1) more
 holders_next classes n holders more held is old adds = record {
   locks = adds.size ∙ old.locks;
   each = λ l w at. each l w at (dec_contains held l);

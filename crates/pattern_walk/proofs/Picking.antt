@@ -14,7 +14,7 @@ use Rattle.trace_laws.proofs.Places.{three_way, index_of, contains_at, within_fr
 use Rattle.trace_index.proofs.SetNumbering.{push_cases}
 use Rattle.lock_graph.specs.Classes.{Graph}
 use Rattle.pattern_walk.specs.Cycles.{class_of, classes_of}
-use Rattle.pattern_walk.specs.Instances.{IsOf, IsAt, AreFirst, AreAtMost, rest_of}
+use Rattle.pattern_walk.specs.Instances.{IsListedPattern, ArePicksAt, AreFirstPositions, AreAtMost, rest_of}
 use Rattle.pattern_walk.proofs.Lists.{all_at, map_at, at_map}
 use Rattle.pattern_walk.proofs.Raising.{closure_grows}
 
@@ -56,7 +56,7 @@ rest_less end (x ∷ xs) zero p q at less le = let same : x ≡ p = cc in omega 
 rest_less end (x ∷ xs) (suc i) p q at less le = let rest = rest_less end xs i p q at less le in omega arith
 
 -- a pattern of a graph
-module _ (graph : Graph) (pattern : List ℕ) (is_of : IsOf graph pattern) where
+module _ (graph : Graph) (pattern : List ℕ) (is_of : IsListedPattern graph pattern) where
   -- its classes are classes of the trace
   pub class_at_number : (i n : ℕ) → slice_get pattern i ≡ Some n → IsClass graph.trace.events (class_of graph.classes n)
   class_at_number i n at = all_at (IsClass graph.trace.events) (classes_of graph.classes pattern) is_of.pattern.classes i (class_of graph.classes n) (at_map (class_of graph.classes) pattern i n at)
@@ -79,7 +79,7 @@ module _ (graph : Graph) (pattern : List ℕ) (is_of : IsOf graph pattern) where
   other_pick others deadlock i n at = zip_at (λ (class : Class) (a : ℕ). Contains class.acquires a) (classes_of graph.classes pattern) others deadlock.picked i (class_of graph.classes n) (at_map (class_of graph.classes) pattern i n at)
 
   -- picks by positions
-  module _ (positions picks : List ℕ) (is_at : IsAt graph.classes pattern positions picks) where
+  module _ (positions picks : List ℕ) (is_at : ArePicksAt graph.classes pattern positions picks) where
     -- a pick, the number of its class, and its position
     pub record PickAt (i p : ℕ) : Type 0 where
       pub number : ℕ
@@ -121,7 +121,7 @@ module _ (graph : Graph) (pattern : List ℕ) (is_of : IsOf graph pattern) where
     picks_within a c = let at = index_of picks a c in let is = pick_at at.0 a at.1 in acquire_in_trace at.0 is.number a is.class (picked at.0 a at.1)
 
     -- the first acquires are at most those of each deadlock
-    pub first_are_least : AreFirst positions → (others : List ℕ) → DeadlockBy (by_closure graph.trace.events) (classes_of graph.classes pattern) others → AreAtMost picks others
+    pub first_are_least : AreFirstPositions positions → (others : List ℕ) → DeadlockBy (by_closure graph.trace.events) (classes_of graph.classes pattern) others → AreAtMost picks others
     first_are_least first others deadlock i p o at_p at_o =
         let is = pick_at i p at_p in
         let other = other_pick others deadlock i is.number is.class in
@@ -156,7 +156,7 @@ first_more classes numbers picks k n p size old at_n at_p i m a at_m at_a = go (
         subst (λ (j : ℕ). slice_get (class_of classes j).acquires 0 ≡ Some a) same (at_p ∙ ap Some h.1)
 
 -- positions that are all first, and one more
-pub all_first_more : (positions : List ℕ) → AreFirst positions → AreFirst (positions ++ 0 ∷ [])
+pub all_first_more : (positions : List ℕ) → AreFirstPositions positions → AreFirstPositions (positions ++ 0 ∷ [])
 all_first_more positions first i k at = go (push_cases positions 0 k i at)
   where
     go : (slice_get positions i ≡ Some k) ⊎ ((i ≡ length positions) × (0 ≡ k)) → k ≡ 0
@@ -164,7 +164,7 @@ all_first_more positions first i k at = go (push_cases positions 0 k i at)
     go (inr h) = sym h.1
 
 -- first acquires are at their positions
-pub first_at : (classes : List Class) (pattern positions picks : List ℕ) → length positions ≡ length pattern → length picks ≡ length pattern → AreFirst positions → ((i n p : ℕ) → slice_get pattern i ≡ Some n → slice_get picks i ≡ Some p → slice_get (class_of classes n).acquires 0 ≡ Some p) → IsAt classes pattern positions picks
+pub first_at : (classes : List Class) (pattern positions picks : List ℕ) → length positions ≡ length pattern → length picks ≡ length pattern → AreFirstPositions positions → ((i n p : ℕ) → slice_get pattern i ≡ Some n → slice_get picks i ≡ Some p → slice_get (class_of classes n).acquires 0 ≡ Some p) → ArePicksAt classes pattern positions picks
 first_at classes pattern positions picks size_positions size_picks first each = record {
   positions = size_positions;
   picks = size_picks;

@@ -12,7 +12,7 @@ use Rattle.pattern_walk.specs.Cycles.{class_of, classes_of}
 use Rattle.pattern_walk.specs.Listed.{AreClassNumbers}
 
 -- the numbers are those of the classes of a pattern of at most the greatest size
-pub record IsOf (graph : Graph) (listed : List ℕ) : Type 0 where
+pub record IsListedPattern (graph : Graph) (listed : List ℕ) : Type 0 where
   pub numbers : AreClassNumbers graph.classes listed
   pub pattern : IsPattern graph.trace.events (classes_of graph.classes listed)
   pub size : length listed ≤ MAX_SIZE
@@ -27,14 +27,14 @@ IsLeastDeadlock trace pattern None = HasNoDeadlock trace.events pattern
 IsLeastDeadlock trace pattern (Some found) = IsFoundDeadlock trace.events trace.threads (by_closure trace.events) pattern (record { picks = found.0; keep = found.1 })
 
 -- each pick is the acquire at its position in its class
-pub record IsAt (classes : List Class) (pattern numbers places : List ℕ) : Type 0 where
+pub record ArePicksAt (classes : List Class) (pattern numbers places : List ℕ) : Type 0 where
   pub positions : length numbers ≡ length pattern
   pub picks : length places ≡ length pattern
   pub each : (i n k p : ℕ) → slice_get pattern i ≡ Some n → slice_get numbers i ≡ Some k → slice_get places i ≡ Some p → slice_get (class_of classes n).acquires k ≡ Some p
 
 -- each position is the first
-abbrev pub AreFirst : List ℕ → Type 0
-AreFirst positions = (i k : ℕ) → slice_get positions i ≡ Some k → k ≡ 0
+abbrev pub AreFirstPositions : List ℕ → Type 0
+AreFirstPositions positions = (i k : ℕ) → slice_get positions i ≡ Some k → k ≡ 0
 
 -- the acquires from one position up to another are in the set
 abbrev pub AreInSet : (ℕ → Bool) → List ℕ → ℕ → ℕ → Type 0
@@ -47,7 +47,7 @@ AreAtMost least others = (i p o : ℕ) → slice_get least i ≡ Some p → slic
 -- the cursor has the closure of the places before the picks, and they are at most those of each deadlock
 pub record IsUnderway (graph : Graph) (pattern positions picks : List ℕ) (cursor : PlaceSet) : Type 0 where
   pub trace : cursor.trace ≡ graph.trace
-  pub at : IsAt graph.classes pattern positions picks
+  pub at : ArePicksAt graph.classes pattern positions picks
   pub closure : IsClosureBefore graph.trace.events picks (has cursor.members)
   pub least : (others : List ℕ) → DeadlockBy (by_closure graph.trace.events) (classes_of graph.classes pattern) others → AreAtMost picks others
 

@@ -11,7 +11,7 @@ abbrev pub AreClassNumbers : List Class → List ℕ → Type 0
 AreClassNumbers classes numbers = (n : ℕ) → Contains numbers n → n < length classes
 
 -- the list has exactly the patterns of the trace of at most that size, in their order, by the numbers of their classes
-pub record AreListed (graph : Graph) (size : ℕ) (listed : List (List ℕ)) : Type 0 where
+pub record AreListedPatterns (graph : Graph) (size : ℕ) (listed : List (List ℕ)) : Type 0 where
   pub numbers : (p : List ℕ) → Contains listed p → AreClassNumbers graph.classes p
   pub patterns : ArePatterns graph.trace.events size (map (classes_of graph.classes) listed)
 

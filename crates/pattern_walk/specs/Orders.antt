@@ -7,13 +7,13 @@ use Rattle.trace_laws.specs.Patterns.{Class}
 use Rattle.pattern_walk.specs.Cycles.{class_of}
 
 -- the class comes last in the list of each of these locks, and all other lists stay
-pub record Adds (old : List (Vec ℕ Global)) (locks : List ℕ) (class : ℕ) (new : List (Vec ℕ Global)) : Type 0 where
+pub record AddsClass (old : List (Vec ℕ Global)) (locks : List ℕ) (class : ℕ) (new : List (Vec ℕ Global)) : Type 0 where
   pub size : length new ≡ length old
   pub added : (l : ℕ) (v w : Vec ℕ Global) → Contains locks l → slice_get old l ≡ Some v → slice_get new l ≡ Some w → w.items ≡ v.items ++ class ∷ []
   pub same : (l : ℕ) → (Contains locks l → ⊥) → slice_get new l ≡ slice_get old l
 
 -- the class comes last in the list of each of the first k of these locks, and all other lists stay
-pub record AddsBelow (old : List (Vec ℕ Global)) (locks : List ℕ) (class k : ℕ) (new : List (Vec ℕ Global)) : Type 0 where
+pub record AddsClassBelow (old : List (Vec ℕ Global)) (locks : List ℕ) (class k : ℕ) (new : List (Vec ℕ Global)) : Type 0 where
   pub size : length new ≡ length old
   pub added : (j l : ℕ) (v w : Vec ℕ Global) → j < k → slice_get locks j ≡ Some l → slice_get old l ≡ Some v → slice_get new l ≡ Some w → w.items ≡ v.items ++ class ∷ []
   pub same : (l : ℕ) → ((j : ℕ) → j < k → slice_get locks j ≡ Some l → ⊥) → slice_get new l ≡ slice_get old l

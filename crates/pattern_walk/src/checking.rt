@@ -5,7 +5,7 @@ ghost use Rattle.std.specs.Bool.{IsFalse};
 ghost use Rattle.trace_laws.specs.Closed.{AreOutside};
 ghost use Rattle.sp_closure.specs.Members.{has};
 ghost use Rattle.pattern_walk.specs.Cycles.{classes_of};
-ghost use Rattle.pattern_walk.specs.Instances.{IsOf, IsUnderway, HasNoDeadlock, IsLeastDeadlock};
+ghost use Rattle.pattern_walk.specs.Instances.{IsListedPattern, IsUnderway, HasNoDeadlock, IsLeastDeadlock};
 
 use crate::instance::Instance;
 use crate::patterns::Pattern;
@@ -22,7 +22,7 @@ fn settle(
     cursor: &mut Cursor<'_>,
     instance: &mut Instance,
 ) -> bool
-    requires pattern { IsOf classes.now pattern.now }
+    requires pattern { IsListedPattern classes.now pattern.now }
     requires underway { IsUnderway classes.now pattern.now instance.old.positions.items instance.old.picks.items cursor.old }
     ensures trace { cursor.new.trace ≡ cursor.old.trace }
     ensures underway { IsTrue result → IsUnderway classes.now pattern.now instance.new.positions.items instance.new.picks.items cursor.new }
@@ -47,7 +47,7 @@ pub fn check(
     classes: &Classes<'_>,
     cursor: &mut Cursor<'_>,
 ) -> Result<Option<(Deadlock, Keep)>, OutOfMemory>
-    requires pattern { IsOf classes.now pattern.now }
+    requires pattern { IsListedPattern classes.now pattern.now }
     requires trace { cursor.old.trace ≡ classes.now.trace }
     ensures trace { cursor.new.trace ≡ cursor.old.trace }
     ensures found { IfOk result (IsLeastDeadlock classes.now.trace (classes_of classes.now.classes pattern.now)) }

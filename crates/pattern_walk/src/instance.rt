@@ -4,7 +4,7 @@ ghost use Rattle.std.specs.Bool.{IsFalse};
 ghost use Rattle.trace_laws.specs.Closed.{IsClosureBefore, AreOutside};
 ghost use Rattle.sp_closure.specs.Members.{has};
 ghost use Rattle.pattern_walk.specs.Cycles.{classes_of};
-ghost use Rattle.pattern_walk.specs.Instances.{IsOf, IsAt, AreInSet, IsUnderway, HasNoDeadlock, AreFirst, rest_of};
+ghost use Rattle.pattern_walk.specs.Instances.{IsListedPattern, ArePicksAt, AreInSet, IsUnderway, HasNoDeadlock, AreFirstPositions, rest_of};
 
 use crate::patterns::Pattern;
 use lock_graph::Classes;
@@ -43,9 +43,9 @@ impl Instance {
         pattern: &Pattern,
         classes: &Classes<'_>,
     ) -> Result<Instance, OutOfMemory>
-        requires { IsOf classes.now pattern.now }
-        ensures at { IfOk result (λ i. IsAt classes.now.classes pattern.now i.positions.items i.picks.items) }
-        ensures first { IfOk result (λ i. AreFirst i.positions.items) }
+        requires { IsListedPattern classes.now pattern.now }
+        ensures at { IfOk result (λ i. ArePicksAt classes.now.classes pattern.now i.positions.items i.picks.items) }
+        ensures first { IfOk result (λ i. AreFirstPositions i.positions.items) }
     {
         let mut instance = Instance {
             positions: Vec::new(alloc),
@@ -100,7 +100,7 @@ impl Instance {
         cursor: &mut Cursor<'_>,
         i: usize,
     ) -> bool
-        requires pattern { IsOf classes.now pattern.now }
+        requires pattern { IsListedPattern classes.now pattern.now }
         requires underway { IsUnderway classes.now pattern.now self.old.positions.items self.old.picks.items cursor.old }
         requires number { i < length self.old.picks.items }
         requires inside { has cursor.old.members (slice_index self.old.picks.items i) ≡ true }

@@ -3,7 +3,7 @@ ghost use Rattle.std.specs.Prelude.{ℕ, ◌≡◌, ◌<◌, ◌↔◌, ◌⊎�
 ghost use Rattle.std.specs.declared.alloc.Global.{Global};
 ghost use Rattle.sp_base.specs.declared.limits.TheConstants.{MAX_LOCKS};
 ghost use Rattle.trace_laws.specs.Reordering.{Rises};
-ghost use Rattle.pattern_walk.specs.Orders.{AreHolders, AreBefore, Adds};
+ghost use Rattle.pattern_walk.specs.Orders.{AreHolders, AreBefore, AddsClass};
 
 use lock_graph::Classes;
 use sp_base::{MAX_LOCKS, OutOfMemory};
@@ -36,7 +36,7 @@ fn add_holder(holders: &mut Vec<Vec<u32>>, held: &[u32], class: u32) -> Result<(
     requires locks { length holders.old.items ≡ MAX_LOCKS }
     requires order { Rises held.now }
     requires below { (l : ℕ) → Contains held.now l → l < MAX_LOCKS }
-    ensures { OnOk result (Adds holders.old.items held.now class holders.new.items) }
+    ensures { OnOk result (AddsClass holders.old.items held.now class holders.new.items) }
 {
     for &lock in held {
         let Ok(()) = holders[lock as usize].push(class) else {

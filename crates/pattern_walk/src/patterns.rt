@@ -2,7 +2,7 @@
 
 ghost use Rattle.std.specs.Prelude.{◌≡◌, ◌<◌, ◌≤◌, ◌↔◌, length, slice_get, Some, IfOk, IsErrOf, IsTrue};
 ghost use Rattle.sp_base.specs.declared.limits.TheConstants.{MIN_SIZE, MAX_SIZE, MAX_PATTERNS};
-ghost use Rattle.pattern_walk.specs.Listed.{AreListed, HasMorePatterns};
+ghost use Rattle.pattern_walk.specs.Listed.{AreListedPatterns, HasMorePatterns};
 
 use crate::near::Near;
 use crate::walk::Walk;
@@ -95,7 +95,7 @@ impl Patterns {
     pub fn list(alloc: Global, classes: &Classes<'_>, size: u8) -> Result<Patterns, WalkFault>
         requires least { MIN_SIZE ≤ size }
         requires most { size ≤ MAX_SIZE }
-        ensures patterns { IfOk result (λ patterns. AreListed classes.now size patterns) }
+        ensures patterns { IfOk result (λ patterns. AreListedPatterns classes.now size patterns) }
         ensures few { IfOk result (λ _. HasMorePatterns classes.now.trace.events size → ⊥) }
         ensures many { IsErrOf result WalkFault.TooManyPatterns → HasMorePatterns classes.now.trace.events size }
     {

@@ -3,7 +3,6 @@ use Rattle.std.proofs.Common.{◌≡◌, ℕ, ◌+◌, ◌<◌, ◌≤◌, List,
 use Rattle.std.specs.Prelude.{Contains, All}
 use Rattle.std.proofs.lemmas.List.{map-append}
 use Rattle.std.proofs.lemmas.List.Elements.{All-nil, All-push, Contains-push, Contains-append_left}
-use Rattle.trace_laws.specs.Traces.{History}
 use Rattle.trace_laws.specs.Findings.{FoundRace, IsFoundRace, by_reorderings}
 use Rattle.trace_laws.proofs.Places.{three_way}
 use Rattle.trace_index.proofs.Accessing.{access_within}
@@ -61,11 +60,3 @@ collected_all scan passed found c none = record {
     stands later race (inl less) = c.all later less race
     stands later race (inr (inl same)) = absurd (none later (omega arith) (access_within scan.trace.events later race.range.var race.range.accesses) race)
     stands later race (inr (inr more)) = absurd (none later (omega arith) (access_within scan.trace.events later race.range.var race.range.accesses) race)
-
--- no variable has no race
-pub no_variable : (h : History) (from to : ℕ) → from ≡ to → AreRacesIn h from to []
-no_variable h from to same = record {
-  races = All-nil (IsFoundRace h.events h.threads (by_reorderings h.events));
-  inside = All-nil (λ (r : FoundRace). IsInRange h.events from to r.later);
-  all = λ later race. let least = race.range.least in let below = race.range.below in absurd (omega arith);
-}

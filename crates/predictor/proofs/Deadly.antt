@@ -22,7 +22,7 @@ use Rattle.trace_laws.proofs.Judges.{AreWithin, closure_before, instance_within,
 use Rattle.lock_graph.specs.Classes.{Graph}
 use Rattle.pattern_walk.specs.Cycles.{class_of, classes_of}
 use Rattle.pattern_walk.specs.Instances.{HasNoDeadlock}
-use Rattle.pattern_walk.specs.Listed.{AreListed}
+use Rattle.pattern_walk.specs.Listed.{AreListedPatterns}
 use Rattle.predictor.specs.Predictions.{ArePredictions}
 use Rattle.predictor.specs.Searches.{AreRaces, AreRanked, AreDeadlocks, HasDeadlockBetween}
 use Rattle.predictor.proofs.Chaining.{all_pairs_append, all_zip_append}
@@ -163,7 +163,7 @@ module _ (h : History) (lawful : Lawful h.events) (pattern : List Class) (is : I
   }
 
 -- the races and the deadlocks of all patterns are what is predicted
-pub predicted : (size : ℕ) (graph : Graph) (listed : List (List ℕ)) (found : Found) → IsTrace graph.trace.events graph.trace.threads → AreListed graph size listed → AreRaces graph.trace found.races
+pub predicted : (size : ℕ) (graph : Graph) (listed : List (List ℕ)) (found : Found) → IsTrace graph.trace.events graph.trace.threads → AreListedPatterns graph size listed → AreRaces graph.trace found.races
     → AreDeadlocks graph.trace (map (classes_of graph.classes) listed) 0 (length listed) found.deadlocks → ArePredictions graph.trace size found
 unfolding ArePredictions
 predicted size graph listed found trace are races deadlocks = record {
@@ -201,7 +201,7 @@ pub classes_at : (classes : List Class) (listed : List (List ℕ)) (n : ℕ) (p 
 classes_at classes listed n p at = slice_get-map (classes_of classes) listed n ∙ ap (option_map (classes_of classes)) at
 
 -- the patterns that are listed are in their order
-pub ranked : (graph : Graph) (size : ℕ) (listed : List (List ℕ)) → size ≤ MAX_SIZE → AreListed graph size listed → AreRanked graph listed
+pub ranked : (graph : Graph) (size : ℕ) (listed : List (List ℕ)) → size ≤ MAX_SIZE → AreListedPatterns graph size listed → AreRanked graph listed
 ranked graph size listed most are = record {
   each = λ p c.
       let number = index_of listed p c in

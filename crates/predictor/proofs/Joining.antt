@@ -11,7 +11,7 @@ use Rattle.predictor.specs.Borders.{border}
 use Rattle.predictor.specs.Parts.{race_found, deadlock_found, IsBetween, AreFilled, AreSlots}
 use Rattle.predictor.specs.Searches.{AreRanked, AreDeadlocks}
 use Rattle.predictor.specs.declared.cut.Border.{Border}
-use Rattle.predictor.specs.declared.job.Part.{Part}
+use Rattle.predictor.specs.declared.part.Part.{Part}
 use Rattle.predictor.proofs.Deadly.{no_pattern, range_more}
 use Rattle.predictor.proofs.Slotting.{slots_none, slots_more}
 

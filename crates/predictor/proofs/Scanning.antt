@@ -23,15 +23,6 @@ pub record Scanned (trace : List Event) (threads later : ℕ) (found : List Foun
   pub races : All (IsFoundRace trace threads (by_reorderings trace)) found
   pub all : (e1 e2 : ℕ) → e1 < e2 → e2 < later → Races trace e1 e2 → Contains (map (λ r. r.later) found) e2
 
--- none at first
-pub scanned_none : (trace : List Event) (threads : ℕ) → Scanned trace threads 0 []
-scanned_none trace threads = record {
-  order = λ i j d less within. absurd (omega arith);
-  below = λ k d less. absurd (omega arith);
-  races = λ k d less. absurd (omega arith);
-  all = λ e1 e2 less within race. absurd (omega arith);
-}
-
 -- places that race with no earlier one
 pub scanned_past : (trace : List Event) (threads later next : ℕ) (found : List FoundRace) → Scanned trace threads later found → later ≤ next → ((e1 e2 : ℕ) → later ≤ e2 → e2 < next → e1 < e2 → Races trace e1 e2 → ⊥) → Scanned trace threads next found
 scanned_past trace threads later next found s le none = record {

@@ -1,16 +1,14 @@
 -- What the jobs of a search find.
-use Rattle.std.specs.Prelude.{◌≡◌, ◌<◌, ◌+◌, ℕ, List, Option, Some, None, length, map, slice_get, Contains}
-use Rattle.sp_base.specs.declared.limits.TheConstants.{MAX_VARS}
+use Rattle.std.specs.Prelude.{◌≡◌, ◌≤◌, ◌+◌, ℕ, List, [], Option, Some, None, length, map, slice_get, Contains}
 use Rattle.trace_laws.specs.Traces.{History}
 use Rattle.trace_laws.specs.Findings.{FoundRace, FoundDeadlock, IsFoundRace, by_reorderings}
 use Rattle.trace_laws.specs.declared.finding.Race.{Race}
 use Rattle.lock_graph.specs.Classes.{Graph}
 use Rattle.pattern_walk.specs.Cycles.{classes_of}
 use Rattle.race_scan.specs.Scans.{RacesInRange, found_race}
-use Rattle.predictor.specs.Searches.{AreRacesIn, AreRanked, AreDeadlocks}
-use Rattle.predictor.specs.Borders.{AreBorders}
+use Rattle.predictor.specs.Searches.{AreRacesIn, AreDeadlocks}
 use Rattle.predictor.specs.declared.cut.Border.{Border}
-use Rattle.predictor.specs.declared.job.Part.{Part}
+use Rattle.predictor.specs.declared.part.Part.{Part}
 
 -- a race beside its keep
 abbrev pub race_found : Race × List ℕ → FoundRace
@@ -25,15 +23,12 @@ pub record IsBetween (graph : Graph) (listed : List (List ℕ)) (from to : Borde
   pub races : AreRacesIn graph.trace from.variable to.variable (map race_found part.races.items)
   pub deadlocks : AreDeadlocks graph.trace (map (classes_of graph.classes) listed) from.pattern to.pattern (map deadlock_found part.deadlocks.items)
 
--- the part is what the job between a border and the next one finds
-abbrev pub IsPart : Graph → List (List ℕ) → List Border → ℕ → Part → Type 0
-IsPart graph listed borders n part = (from to : Border) → slice_get borders n ≡ Some from → slice_get borders (n + 1) ≡ Some to → IsBetween graph listed from to part
-
--- the number is that of a job of a search for patterns in their order
-pub record IsJob (graph : Graph) (listed : List (List ℕ)) (borders : List Border) (n : ℕ) : Type 0 where
-  pub ranked : AreRanked graph listed
-  pub cut : AreBorders MAX_VARS (length listed) borders
-  pub number : n + 1 < length borders
+-- The part is what the job between a border and the next one finds. It is empty where there are no two such borders, so
+-- that the number is that of no job.
+pub record IsPartOfJob (graph : Graph) (listed : List (List ℕ)) (borders : List Border) (n : ℕ) (part : Part) : Type 0 where
+  pub between : (from to : Border) → slice_get borders n ≡ Some from → slice_get borders (n + 1) ≡ Some to → IsBetween graph listed from to part
+  pub no_races : length borders ≤ n + 1 → part.races.items ≡ []
+  pub no_deadlocks : length borders ≤ n + 1 → part.deadlocks.items ≡ []
 
 -- The slots were filled with races, each at its later place. A slot that is empty was so before, and none of the races has
 -- its place.

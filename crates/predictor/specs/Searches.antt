@@ -7,7 +7,7 @@ use Rattle.trace_laws.specs.Findings.{Races, FoundRace, FoundDeadlock, DeadlockB
 use Rattle.trace_laws.specs.Closed.{by_closure}
 use Rattle.lock_graph.specs.Classes.{Graph}
 use Rattle.pattern_walk.specs.Cycles.{classes_of}
-use Rattle.pattern_walk.specs.Instances.{IsOf}
+use Rattle.pattern_walk.specs.Instances.{IsListedPattern}
 use Rattle.race_scan.specs.Scans.{IsInRange, RacesInRange}
 
 -- exactly the places that race with an earlier one, in the order of the trace, each with the earliest and its keep
@@ -25,7 +25,7 @@ pub record AreRacesIn (h : History) (from to : ℕ) (found : List FoundRace) : T
 
 -- the list has patterns of the trace, in their order, by the numbers of their classes
 pub record AreRanked (graph : Graph) (listed : List (List ℕ)) : Type 0 where
-  pub each : (p : List ℕ) → Contains listed p → IsOf graph p
+  pub each : (p : List ℕ) → Contains listed p → IsListedPattern graph p
   pub order : AllPairs ComesBefore (map (classes_of graph.classes) listed)
 
 -- the pattern stands in the list from a number on and below another, and some instance of it is a deadlock, judged by closures

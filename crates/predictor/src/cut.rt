@@ -1,15 +1,15 @@
 // Where a search is cut into jobs. How it is cut has no part in what is found, and does not depend on the number of workers.
-ghost use Rattle.std.specs.Prelude.{◌≡◌, ◌≤◌, ◌+◌, ◌++◌, [], ◌∷◌, length, IfOk, OnOk};
+ghost use Rattle.std.specs.Prelude.{◌≡◌, ◌≤◌, ◌+◌, ◌-◌, ◌*◌, ◌++◌, [], ◌∷◌, length, IfOk, OnOk};
 ghost use Rattle.sp_base.specs.declared.limits.TheConstants.{MAX_VARS, MAX_PATTERNS};
 ghost use Rattle.predictor.specs.declared.cut.TheConstants.{MAX_RANGES};
-ghost use Rattle.predictor.specs.Borders.{Rise, AreBorders, border, EndAt};
+ghost use Rattle.predictor.specs.Borders.{Rise, AreBorders, AreOfOneSort, MayEndWith, VariablesComeFirst, border, EndAt};
 
 use sp_base::{MAX_PATTERNS, MAX_VARS, OutOfMemory, VarId};
 use std::alloc::Global;
 use trace_index::Index;
 
 /// The most ranges of variables, and the most ranges of patterns.
-const MAX_RANGES: u32 = 32;
+pub const MAX_RANGES: u32 = 32;
 
 /// Into how many shares the accesses are divided. A range of variables has at most one share, or is one variable alone.
 const SHARES: u64 = 16;
@@ -48,27 +48,27 @@ fn add(borders: &mut Vec<Border>, variable: u32, pattern: u32) -> Result<(), Out
     Ok(())
 }
 
-// Whether a range with accesses ends before a variable, which would bring it above the share.
-fn ends_before(range: u64, variable: u64, share: u64) -> bool {
-    range > 0 && variable > 0 && range.saturating_add(variable) > share
+// Whether a range of variables or of patterns ends before the next one, which would bring what it has above the share.
+fn ends_before(range: u64, more: u64, share: u64) -> bool {
+    range > 0 && more > 0 && range.saturating_add(more) > share
 }
 
-// Adds a border before a variable, where the range before it ends there. Answers how many accesses the range of the variable
-// has up to it.
+// Adds a border, where the range before it ends there and there are fewer borders than so many. Answers how much the range of
+// what stands next behind the border has up to it.
 fn add_before(
     borders: &mut Vec<Border>,
-    variable: u32,
+    border: Border,
+    most: usize,
     range: u64,
     more: u64,
     share: u64,
 ) -> Result<u64, OutOfMemory>
-    requires rise { Rise variable 0 borders.old.items }
-    requires few { length borders.old.items ≤ MAX_RANGES }
-    ensures rise { IfOk result (λ _. Rise (variable + 1) 0 borders.new.items) }
-    ensures few { IfOk result (λ _. length borders.new.items ≤ MAX_RANGES) }
+    requires few { length borders.old.items ≤ most }
+    ensures added { IfOk result (λ _. MayEndWith border borders.old.items borders.new.items) }
+    ensures few { IfOk result (λ _. length borders.new.items ≤ most) }
 {
-    if borders.len() < MAX_RANGES as usize && ends_before(range, more, share) {
-        add(borders, variable, 0)?;
+    if borders.len() < most && ends_before(range, more, share) {
+        add(borders, border.variable, border.pattern)?;
         return Ok(more);
     }
     Ok(range.saturating_add(more))
@@ -78,6 +78,7 @@ fn add_before(
 fn cut_variables(alloc: Global, index: &Index<'_>) -> Result<Vec<Border>, OutOfMemory>
     ensures rise { IfOk result (λ borders. Rise MAX_VARS 0 borders.items) }
     ensures end { IfOk result (λ borders. EndAt MAX_VARS 0 borders.items) }
+    ensures some { IfOk result (λ borders. 1 ≤ length borders.items) }
     ensures few { IfOk result (λ borders. length borders.items ≤ MAX_RANGES + 1) }
 {
     let share = share_of(index);
@@ -85,37 +86,63 @@ fn cut_variables(alloc: Global, index: &Index<'_>) -> Result<Vec<Border>, OutOfM
     add(&mut borders, 0, 0)?;
     let mut accesses = 0;
     for variable in 0..MAX_VARS {
+        let border = Border {
+            variable,
+            pattern: 0,
+        };
         let more = accesses_of(index, variable);
-        accesses = add_before(&mut borders, variable, accesses, more, share)?;
+        accesses = add_before(
+            &mut borders,
+            border,
+            MAX_RANGES as usize,
+            accesses,
+            more,
+            share,
+        )?;
     }
     add(&mut borders, MAX_VARS, 0)?;
     Ok(borders)
 }
 
-// Adds the borders of ranges of so many patterns, of which only the last may be shorter.
+// Adds the borders of ranges of so many patterns, of which only the last may be shorter. The jobs so far are those of
+// variables.
 fn cut_patterns(borders: &mut Vec<Border>, patterns: u32) -> Result<(), OutOfMemory>
     requires few { patterns ≤ MAX_PATTERNS }
     requires rise { Rise MAX_VARS 0 borders.old.items }
     requires end { EndAt MAX_VARS 0 borders.old.items }
+    requires some { 1 ≤ length borders.old.items }
+    requires room { length borders.old.items ≤ MAX_RANGES + 1 }
     ensures rise { OnOk result (Rise MAX_VARS patterns borders.new.items) }
     ensures end { OnOk result (EndAt MAX_VARS patterns borders.new.items) }
-    ensures few { OnOk result (length borders.new.items ≤ length borders.old.items + patterns) }
+    ensures sorts { OnOk result (VariablesComeFirst MAX_VARS (length borders.old.items - 1) borders.new.items) }
+    ensures few { OnOk result (length borders.new.items ≤ length borders.old.items + MAX_RANGES) }
 {
-    let width = patterns.div_ceil(MAX_RANGES);
-    let mut pattern = 0;
-    while pattern < patterns {
-        pattern = (pattern + width).min(patterns);
-        add(borders, MAX_VARS, pattern)?;
+    if patterns == 0 {
+        return Ok(());
     }
+    let most = borders.len() + MAX_RANGES as usize - 1;
+    let share = u64::from(patterns.div_ceil(MAX_RANGES));
+    let mut range = 0;
+    for pattern in 0..patterns {
+        let border = Border {
+            variable: MAX_VARS,
+            pattern,
+        };
+        range = add_before(borders, border, most, range, 1, share)?;
+    }
+    add(borders, MAX_VARS, patterns)?;
     Ok(())
 }
 
-/// The borders of the jobs of a search: job `n` lies between border `n` and the next one. The jobs of variables come first.
-/// The only error is want of memory.
+/// The borders of the jobs of a search: job `n` lies between border `n` and the next one.
+///
+/// Each job has variables alone or patterns alone. Those of variables have the lowest numbers, and there are at most
+/// `MAX_RANGES` of each sort, however many patterns there are. The only error is want of memory.
 pub fn cut(alloc: Global, index: &Index<'_>, patterns: u32) -> Result<Vec<Border>, OutOfMemory>
     requires { patterns ≤ MAX_PATTERNS }
     ensures borders { IfOk result (λ borders. AreBorders MAX_VARS patterns borders.items) }
-    ensures few { IfOk result (λ borders. length borders.items ≤ MAX_RANGES + 1 + MAX_PATTERNS) }
+    ensures sorts { IfOk result (λ borders. AreOfOneSort MAX_VARS MAX_RANGES borders.items) }
+    ensures few { IfOk result (λ borders. length borders.items ≤ 2 * MAX_RANGES + 1) }
 {
     let mut borders = cut_variables(alloc, index)?;
     cut_patterns(&mut borders, patterns)?;

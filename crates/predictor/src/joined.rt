@@ -6,11 +6,11 @@ ghost use Rattle.trace_index.specs.Accessed.{AreVariablesBelow};
 ghost use Rattle.pattern_walk.specs.Cycles.{classes_of};
 ghost use Rattle.shard_pool.specs.Shares.{AreAnswers};
 ghost use Rattle.predictor.specs.Borders.{AreBorders};
-ghost use Rattle.predictor.specs.Parts.{race_found, deadlock_found, IsPart, AreFilled, AreSlots};
+ghost use Rattle.predictor.specs.Parts.{race_found, deadlock_found, IsPartOfJob, AreFilled, AreSlots};
 ghost use Rattle.predictor.specs.Searches.{AreRaces, AreRanked, AreDeadlocks};
 
 use crate::cut::Border;
-use crate::job::Part;
+use crate::part::Part;
 use lock_graph::Classes;
 use pattern_walk::Patterns;
 use sp_base::OutOfMemory;
@@ -90,7 +90,7 @@ pub fn join_parts(
     requires ranked { AreRanked classes.now patterns.now }
     requires borders { AreBorders MAX_VARS (length patterns.now) borders.now }
     requires all { length parts.items + 1 ≡ length borders.now }
-    requires parts { AreAnswers (IsPart classes.now patterns.now borders.now) parts.items }
+    requires parts { AreAnswers (IsPartOfJob classes.now patterns.now borders.now) parts.items }
     ensures races { IfOk result (λ found. AreRaces classes.now.trace found.races) }
     ensures deadlocks { IfOk result (λ found. AreDeadlocks classes.now.trace (map (classes_of classes.now.classes) patterns.now) 0 (length patterns.now) found.deadlocks) }
 {

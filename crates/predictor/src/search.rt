@@ -2,13 +2,11 @@
 
 ghost use Rattle.std.specs.Prelude.{◌≡◌, ◌≤◌, length, map, IfOk, IsErrOf};
 ghost use Rattle.pattern_walk.specs.Cycles.{classes_of};
-ghost use Rattle.pattern_walk.specs.Listed.{AreListed, HasMorePatterns};
+ghost use Rattle.pattern_walk.specs.Listed.{AreListedPatterns, HasMorePatterns};
 ghost use Rattle.predictor.specs.Predictions.{ArePredictions, HasFewPatterns};
 ghost use Rattle.predictor.specs.Searches.{AreRaces, AreRanked, AreDeadlocks};
 
-use crate::cut::cut;
 use crate::job::Search;
-use crate::joined::join_parts;
 use lock_graph::Classes;
 use pattern_walk::{Patterns, WalkFault};
 use shard_pool::run_jobs;
@@ -45,7 +43,7 @@ impl From<OutOfMemory> for FindFault {
 fn list_patterns(alloc: Global, classes: &Classes<'_>, size: u8) -> Result<Patterns, FindFault>
     requires least { MIN_SIZE ≤ size }
     requires most { size ≤ MAX_SIZE }
-    ensures listed { IfOk result (AreListed classes.now size) }
+    ensures listed { IfOk result (AreListedPatterns classes.now size) }
     ensures few { IfOk result (λ _. HasFewPatterns classes.now.trace.events size) }
     ensures many { IsErrOf result FindFault.TooManyPatterns → HasMorePatterns classes.now.trace.events size }
 {
@@ -71,23 +69,9 @@ fn find_by_jobs<R: Threads + Sync, G: Gate + Sync>(
     ensures races { IfOk result (λ found. AreRaces classes.entry.trace found.races) }
     ensures deadlocks { IfOk result (λ found. AreDeadlocks classes.entry.trace (map (classes_of classes.entry.classes) patterns) 0 (length patterns) found.deadlocks) }
 {
-    let borders = cut(alloc, classes.index(), patterns.len())?;
-    let jobs = borders.len() as u32 - 1;
-    let search = Search {
-        alloc,
-        classes,
-        patterns,
-        borders,
-        gate,
-    };
-    let parts = run_jobs(rt, alloc, jobs, workers, &search)?;
-    join_parts(
-        alloc,
-        &search.classes,
-        &search.patterns,
-        &search.borders,
-        parts,
-    )
+    let search = Search::new(alloc, classes, patterns, gate)?;
+    let parts = run_jobs(rt, alloc, search.jobs(), workers, &search)?;
+    search.join(parts)
 }
 
 /// What is found in a trace: its races in the order of their later places, each with its earliest partner and its keep, and

@@ -8,7 +8,7 @@ use sp_base::{Gate, LockId, MAX_SIZE, OpenGate, ThreadId, VarId};
 use std::alloc::Global;
 use std::marker::Sync;
 use std::process::Abort;
-use std::sync::atomic::{AtomicBool, Ordering};
+use std::sync::atomic::{AtomicBool, AtomicU32, Ordering};
 use std::test::Fail;
 use std::thread;
 use std::thread::Threads;
@@ -175,5 +175,61 @@ fn two_jobs_meet(rt: HostRuntime) -> Result<(), Fail> {
     assert_eq!(rt; found.len(), 2);
     assert!(rt; gate.first_began.load(Ordering::SeqCst) && gate.other_began.load(Ordering::SeqCst));
     assert!(rt; !gate.missed.load(Ordering::SeqCst));
+    Ok(())
+}
+
+// Two threads that take so many pairs of locks crosswise.
+fn add_pairs(rt: &impl Abort, builder: &mut Builder, first: ThreadId, second: ThreadId, pairs: u32)
+    requires named { AreNamedBelow builder.old.events 2 }
+    requires first { first < 2 }
+    requires second { second < 2 }
+    requires pairs { pairs ≤ 100 }
+    ensures { AreNamedBelow builder.new.events 2 }
+{
+    for n in 0..pairs {
+        add_nested(rt, builder, first, 2 * n, 2 * n + 1);
+        add_nested(rt, builder, second, 2 * n + 1, 2 * n);
+    }
+}
+
+// Two threads that take seventy pairs of locks crosswise: seventy patterns, each with a deadlock.
+fn seventy_pairs(rt: &impl Abort, alloc: Global) -> Trace {
+    let first = ThreadId::new(0).expect(rt, "a thread");
+    let second = ThreadId::new(1).expect(rt, "a thread");
+    let mut builder = Builder::new(alloc, 560).expect(rt, "room");
+    add_pairs(rt, &mut builder, first, second, 70);
+    builder.finish(2)
+}
+
+// A gate that counts the jobs, and keeps the greatest of their numbers.
+#[derive(Drop)]
+struct Counting {
+    jobs: AtomicU32,
+    greatest: AtomicU32,
+}
+
+impl Gate for Counting {
+    fn before(&self, _thread: ThreadId, _call: u32) {}
+
+    fn inside(&self, _thread: ThreadId, _call: u32) {}
+
+    fn job(&self, number: u32) {
+        self.jobs.fetch_add(1, Ordering::SeqCst);
+        self.greatest.fetch_max(number, Ordering::SeqCst);
+    }
+}
+
+#[test]
+fn at_most_sixty_four_jobs(rt: HostRuntime) -> Result<(), Fail> {
+    let trace = seventy_pairs(&rt, rt.alloc());
+    let gate = Counting {
+        jobs: AtomicU32::new(0),
+        greatest: AtomicU32::new(0),
+    };
+    let found = find(&rt, rt.alloc(), &trace, MAX_SIZE, 2, &gate)?;
+    assert_eq!(rt; found.len(), 70);
+    let jobs = gate.jobs.load(Ordering::SeqCst);
+    assert!(rt; jobs > 1 && jobs <= 64);
+    assert!(rt; gate.greatest.load(Ordering::SeqCst) < jobs);
     Ok(())
 }

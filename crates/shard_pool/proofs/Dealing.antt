@@ -50,10 +50,6 @@ module _ {A : Type 0} where
         | inr here ↦ subst (λ (z : ℕ × A). answers z.0 z.1) (λ i. (sym here.0 i, here.1 i)) new
       ]
 
-  -- no answers
-  pub answers_none : (answers : ℕ → A → Type 0) → AreAnswers answers []
-  answers_none answers k x at = absurd (cc)
-
   -- answers from the last number to the first are answers once they are reversed
   pub answers_reversed : (answers : ℕ → A → Type 0) (limit : ℕ) (xs ys : List A) → length xs ≡ limit → length ys ≡ limit → ReversedBelow xs ys limit → AreAnswers (λ k. answers (limit - 1 - k)) xs → AreAnswers answers ys
   answers_reversed answers limit xs ys many same turned each k y at =
@@ -71,15 +67,6 @@ module _ {A : Type 0} where
       pub most : number ≤ length share * workers + worker
       pub within : (turn : ℕ) → turn < length share → turn * workers + worker < limit
       pub each : AreAnswers (λ turn. answers (turn * workers + worker)) share
-
-    -- before the first turn
-    pub dealt_none : (limit worker : ℕ) → IsDealt limit worker worker []
-    dealt_none limit worker = record {
-      next = λ _. omega arith;
-      most = omega arith;
-      within = λ turn less. absurd (omega arith);
-      each = λ turn answer at. absurd (cc);
-    }
 
     -- after one turn more
     pub dealt_more : (limit worker number after : ℕ) (share : List A) (answer : A) → number < limit → after ≤ number + workers → (after < limit → after ≡ number + workers) → answers number answer → IsDealt limit worker number share → IsDealt limit worker after (share ++ answer ∷ [])
@@ -111,13 +98,6 @@ module _ {A : Type 0} where
             go : (turn ≡ length share) ⊎ (turn ≢ length share) → turn * workers + worker < limit
             go (inl same) = let at = here in let row = ap (λ n. n * workers) same in omega arith
             go (inr other) = let size = long in dealt.within turn (omega (arith, other))
-
-    -- after the last turn it is the share
-    pub dealt_all : (limit worker number : ℕ) (share : List A) → limit ≤ number → IsDealt limit worker number share → IsShare answers workers limit worker share
-    dealt_all limit worker number share past dealt = record {
-      many = λ turn. (dealt.within turn, λ less. let most = dealt.most in lt_of_mul-lt-mul_right workers (omega arith));
-      each = dealt.each;
-    }
 
     -- what all workers answered are their shares
     pub shares_done : {E : Type 0} (limit : ℕ) (done : List (Result (Vec A Global) E)) (shares : List (Vec A Global)) → length done ≡ workers → map Ok shares ≡ done

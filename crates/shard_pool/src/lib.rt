@@ -1,7 +1,8 @@
 //! Numbered jobs over workers.
 //!
-//! The jobs are dealt out to the workers by the remainders of their numbers. The answers stand in the order of the numbers,
-//! whatever the number of workers.
+//! `run_jobs` answers what each job answers, in the order of the numbers, each once, whatever the number of workers. The jobs
+//! are dealt out to the workers by the remainders of their numbers. It stands on the threads of std alone, waits for nothing
+//! but their ends, and must not know what the jobs do.
 #![tactic(auto)]
 
 mod job;

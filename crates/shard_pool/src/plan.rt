@@ -1,6 +1,6 @@
 // How jobs are dealt out to workers.
 
-ghost use Rattle.std.specs.Prelude.{◌≡◌, ℕ, ◌+◌, ◌<◌, ◌≤◌, map, IfOk, Ok, vec_len};
+ghost use Rattle.std.specs.Prelude.{◌≡◌, ◌+◌, ◌<◌, ◌≤◌, map, IfOk, Ok, vec_len};
 ghost use Rattle.sp_base.specs.declared.limits.TheConstants.{MAX_WORKERS};
 ghost use Rattle.shard_pool.specs.Shares.{AreAnswers, IsShare, AreShares};
 
@@ -51,7 +51,6 @@ where
 {
     // Does the jobs of one worker, in the order of their numbers.
     fn work(&self, alloc: Global, worker: u32) -> Result<Vec<J::Answer>, OutOfMemory>
-        requires jobs { (number : ℕ) → number < self.now.jobs → J.is_job self.now.job.now number }
         requires worker { worker < self.now.workers }
         ensures { IfOk result (λ share. IsShare (J.answers self.now.job.now) self.now.workers self.now.jobs worker share.items) }
     {
@@ -112,11 +111,10 @@ where
         alloc: Global,
     ) -> Result<Vec<Vec<J::Answer>>, OutOfMemory>
         requires workers { self.now.workers ≤ MAX_WORKERS }
-        requires jobs { (number : ℕ) → number < self.now.jobs → J.is_job self.now.job.now number }
         ensures { IfOk result (λ shares. AreShares (J.answers self.now.job.now) self.now.workers self.now.jobs shares.items) }
     {
         let work = |worker: usize| -> Result<Vec<J::Answer>, OutOfMemory>
-            requires { (worker < self.now.workers) × (self.now.workers ≤ MAX_WORKERS) × ((number : ℕ) → number < self.now.jobs → J.is_job self.now.job.now number) }
+            requires { (worker < self.now.workers) × (self.now.workers ≤ MAX_WORKERS) }
             ensures { IfOk result (λ share. IsShare (J.answers self.entry.now.job.now) self.entry.now.workers self.entry.now.jobs worker share.items) }
         { self.work(alloc, worker as u32) };
         let done = thread::map_indices(rt, alloc, self.workers as usize, &work)?;

@@ -1,6 +1,6 @@
 //! Numbered jobs over workers.
 
-ghost use Rattle.std.specs.Prelude.{◌≡◌, ℕ, ◌<◌, ◌≤◌, IfOk, vec_len};
+ghost use Rattle.std.specs.Prelude.{◌≡◌, ◌≤◌, IfOk, vec_len};
 ghost use Rattle.shard_pool.specs.Shares.{AreAnswers};
 
 use crate::Job;
@@ -26,7 +26,6 @@ where
     J::Answer: Send + Drop,
     requires least_workers { 1 ≤ workers }
     requires greatest_workers { workers ≤ MAX_WORKERS }
-    requires jobs { (number : ℕ) → number < jobs → J.is_job job.now number }
     ensures length { IfOk result (λ answers. vec_len answers ≡ jobs) }
     ensures answers { IfOk result (λ answers. AreAnswers (J.answers job.now) answers.items) }
 {

@@ -1,8 +1,14 @@
-use Rattle.std.proofs.Common.{◌≤◌, sym, subst, arith}
+use Rattle.std.proofs.Common.{◌+◌, ◌≤◌, sym, subst, arith}
 use Rattle.sp_base.specs.declared.limits.TheConstants.{MAX_VARS}
 use Rattle.predictor.specs.Borders.{Rise, EndAt}
-use Rattle.predictor.proofs.Bordering.{rise_more, end_more}
+use Rattle.predictor.proofs.Bordering.{rise_more, rise_maybe, end_more}
 use Rattle.predictor.proofs.cut.cut_variables.Goals as goal
+
+pub loop-variable-preserved : goal.loop-variable-preserved
+loop-variable-preserved c = record {
+  rise = rise_maybe c.loop-variable.variable 0 (c.loop-variable.variable + 1) 0 c.loop-variable.borders.items c.add_before.new.borders.items (omega arith) (omega arith) c.in_ok-accesses.ensures.added c.loop-variable.invariant.rise;
+  few = c.in_ok-accesses.ensures.few;
+}
 
 pub returns-clause-rise : goal.returns-clause-rise
 returns-clause-rise c =

@@ -57,7 +57,7 @@ fill_slots-requires-clause-races c =
     let less : n < length parts = turn.0 in
     let all = c.requires.all in
     let at = borders_at borders n (omega arith) in
-    let between = c.requires.parts n part (slice_get_read parts (length parts) n part refl turn.0 turn.1) (get_or borders n (border 0 0)) (get_or borders (n + 1) (border 0 0)) at.0 at.1 in
+    let between = (c.requires.parts n part (slice_get_read parts (length parts) n part refl turn.0 turn.1)).between (get_or borders n (border 0 0)) (get_or borders (n + 1) (border 0 0)) at.0 at.1 in
     let same = c.trace-trace.ensures.value ∙ c.index.ensures in
     subst (λ (h : History). All (IsFoundRace h.events h.threads (by_reorderings h.events)) (map race_found part.races.items)) (sym same) between.races.races
 
@@ -76,7 +76,7 @@ add_deadlocks-requires-clause-few c =
     let at = borders_at borders n (omega arith) in
     let from = get_or borders n (border 0 0) in
     let to = get_or borders (n + 1) (border 0 0) in
-    let between = c.requires.parts n part (slice_get_read parts (length parts) n part refl turn.0 turn.1) from to at.0 at.1 in
+    let between = (c.requires.parts n part (slice_get_read parts (length parts) n part refl turn.0 turn.1)).between from to at.0 at.1 in
     let few = few_more graph listed from to part c.loop-part.slots.items c.loop-part.found between (c.loop-part.invariant.joined from at.0) in
     let within = (c.requires.borders.rise.within (n + 1) to at.1).1 in
     let most = c.len.ensures.few in
@@ -103,7 +103,7 @@ loop-part-preserved c =
       alone = c.add_deadlocks.ensures.races ∙ c.loop-part.invariant.alone;
       joined = λ to at_to.
           let next : slice_get borders (n + 1) ≡ Some to = subst (λ (k : ℕ). slice_get borders k ≡ Some to) long at_to in
-          let between = c.requires.parts n part (slice_get_read parts (length parts) n part refl turn.0 turn.1) from to at.0 next in
+          let between = (c.requires.parts n part (slice_get_read parts (length parts) n part refl turn.0 turn.1)).between from to at.0 next in
           joined_more graph listed from to part c.loop-part.slots.items c.fill_slots.new.slots.items c.loop-part.found c.add_deadlocks.new.found c.requires.ranked (c.requires.borders.rise.order n from to at.0 next) between
           (c.loop-part.invariant.joined from at.0) filled c.in_ok-add_deadlocks.ensures.deadlocks;
     }

@@ -3,7 +3,7 @@ use Rattle.std.specs.Prelude.{Contains}
 use Rattle.std.proofs.lemmas.List.Elements.{Contains-get_or}
 use Rattle.std.proofs.lemmas.Option.{slice_get-get_or}
 use Rattle.pattern_walk.specs.Cycles.{class_of}
-use Rattle.pattern_walk.specs.Instances.{AreFirst}
+use Rattle.pattern_walk.specs.Instances.{AreFirstPositions}
 use Rattle.pattern_walk.proofs.Ordering.{read_of}
 use Rattle.pattern_walk.proofs.Picking.{class_at_number, some_within, first_more, all_first_more, first_at}
 use Rattle.pattern_walk.proofs.instance.Instance.first.Goals as goal
@@ -48,7 +48,7 @@ loop-class-preserved c =
     record {
       positions = ap (λ (xs : List ℕ). length xs) more_positions ∙ length-append positions (0 ∷ []) ∙ ap (λ (j : ℕ). j + 1) c.loop-class.invariant.positions;
       picks = ap (λ (xs : List ℕ). length xs) more_picks ∙ length-append picks (pick ∷ []) ∙ ap (λ (j : ℕ). j + 1) c.loop-class.invariant.picks;
-      first = subst AreFirst (sym more_positions) (all_first_more positions c.loop-class.invariant.first);
+      first = subst AreFirstPositions (sym more_positions) (all_first_more positions c.loop-class.invariant.first);
       each = subst (λ (xs : List ℕ). (i m a : ℕ) → slice_get numbers i ≡ Some m → slice_get xs i ≡ Some a → slice_get (class_of classes m).acquires 0 ≡ Some a) (sym more_picks) (first_more classes numbers picks k n pick c.loop-class.invariant.picks c.loop-class.invariant.each at_n at_pick);
     }
 
