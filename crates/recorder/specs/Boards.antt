@@ -9,18 +9,18 @@ pub record Shown : Type 0 where
   pub number : ℕ
   pub declared : Option ℕ
 
--- whether the list has thread t
-abbrev pub has : List Bool → ℕ → Bool
-has marks t = get_or marks t false
+-- whether the list marks thread t
+abbrev pub is_marked : List Bool → ℕ → Bool
+is_marked marks t = get_or marks t false
 
 -- the list has no thread
 abbrev pub HasNone : List Bool → Type 0
-HasNone marks = (t : ℕ) → has marks t ≡ false
+HasNone marks = (t : ℕ) → is_marked marks t ≡ false
 
 -- the later list has thread t, and of the others those that the earlier one has
 pub record IsAdded (earlier : List Bool) (t : ℕ) (later : List Bool) : Type 0 where
-  pub this : has later t ≡ true
-  pub others : (u : ℕ) → u ≢ t → has later u ≡ has earlier u
+  pub this : is_marked later t ≡ true
+  pub others : (u : ℕ) → u ≢ t → is_marked later u ≡ is_marked earlier u
 
 -- the later list is as thread t leaves it, which has seen this number: t stands from now on where that is still the number, and nothing changes where it is not
 pub record IsSeen (earlier : Shown) (t seen : ℕ) (later : List Bool) : Type 0 where
@@ -29,4 +29,4 @@ pub record IsSeen (earlier : Shown) (t seen : ℕ) (later : List Bool) : Type 0 
 
 -- each thread that has started and not ended stands at the number
 abbrev pub EachStands : Shown → Type 0
-EachStands b = (t : ℕ) → has b.started t ≡ true → has b.ended t ≡ false → has b.stands t ≡ true
+EachStands b = (t : ℕ) → is_marked b.started t ≡ true → is_marked b.ended t ≡ false → is_marked b.stands t ≡ true

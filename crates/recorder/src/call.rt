@@ -22,7 +22,7 @@ pub enum Call {
 }
 
 impl<'a> Manager<'a> {
-    ghost use Rattle.recorder.specs.Passes.{script_of, IsPassOf};
+    ghost use Rattle.recorder.specs.Passes.{manager_script, pass_thread, pass_granted, IsPassOf};
 
     /// Makes the next step of the pass's thread, as soon as it can step. The pass is of this manager, and stays so.
     ///
@@ -45,8 +45,8 @@ impl<'a> Manager<'a> {
     ) -> Call
         requires { IsPassOf self.now pass.old }
         ensures pass { IsPassOf self.now pass.new }
-        ensures thread { pass.new.thread ≡ pass.old.thread }
-        ensures answer { Called (script_of self.now) pass.old.thread pass.old.granted result pass.new.granted }
+        ensures thread { pass_thread pass.new ≡ pass_thread pass.old }
+        ensures answer { Called (manager_script self.now) (pass_thread pass.old) (pass_granted pass.old) result (pass_granted pass.new) }
     {
         gate.before(pass.thread, pass.granted);
         self.board.lock(rt).start(pass.thread);
@@ -67,8 +67,8 @@ impl<'a> Manager<'a> {
     ) -> Option<Call>
         requires { IsPassOf self.now pass.old }
         ensures pass { IsPassOf self.now pass.new }
-        ensures thread { pass.new.thread ≡ pass.old.thread }
-        ensures answer { MatchOption result (pass.new.granted ≡ pass.old.granted) (λ call. Called (script_of self.now) pass.old.thread pass.old.granted call pass.new.granted) }
+        ensures thread { pass_thread pass.new ≡ pass_thread pass.old }
+        ensures answer { MatchOption result (pass_granted pass.new ≡ pass_granted pass.old) (λ call. Called (manager_script self.now) (pass_thread pass.old) (pass_granted pass.old) call (pass_granted pass.new)) }
     {
         let seen = self.board.lock(rt).number();
         match self.turn(rt, pass, gate) {
@@ -96,8 +96,8 @@ impl<'a> Manager<'a> {
     ) -> Grant
         requires { IsPassOf self.now pass.old }
         ensures pass { IsPassOf self.now pass.new }
-        ensures thread { pass.new.thread ≡ pass.old.thread }
-        ensures answer { Turned (script_of self.now) pass.old.thread pass.old.granted result pass.new.granted }
+        ensures thread { pass_thread pass.new ≡ pass_thread pass.old }
+        ensures answer { Turned (manager_script self.now) (pass_thread pass.old) (pass_granted pass.old) result (pass_granted pass.new) }
     {
         let mut state = self.lock.take(rt, &mut pass.seat);
         gate.inside(pass.thread, pass.granted);

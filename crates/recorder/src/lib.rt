@@ -1,4 +1,9 @@
-//! The recorder: scripts run on threads, under a manager of row locks with a single lock.
+//! The recorder: scripts run on threads, and what they did is a complete legal run.
+//!
+//! A manager keeps the run under one lock, with a pass for each thread. What is recorded is tied to the calls that each pass
+//! was granted, whatever turns the threads took; a standstill is told by the board alone. It stands on the lock of
+//! `seat_lock`, on the grants of `row_locks` and on the machine of `script_machine`, and knows no text, no report and
+//! nothing of what is found in a trace.
 #![tactic(auto)]
 
 mod board;

@@ -29,7 +29,7 @@ pub struct Manager<'a> {
 }
 
 impl<'a> Manager<'a> {
-    ghost use Rattle.recorder.specs.Passes.{script_of, IsPassOf, IsNewPass, AreGranted};
+    ghost use Rattle.recorder.specs.Passes.{manager_script, IsPassOf, IsNewPass, AreGranted};
     ghost use Rattle.recorder.specs.declared.pass.Pass.{Pass};
 
     /// A manager for the script, and one pass for each thread, in the order of the threads. No call was granted yet. The
@@ -38,7 +38,7 @@ impl<'a> Manager<'a> {
         alloc: Global,
         script: &'a Script,
     ) -> Result<(Manager<'a>, Vec<Pass<'a>>), OutOfMemory>
-        ensures script { IfOk result (λ made. script_of made.0 ≡ script.now) }
+        ensures script { IfOk result (λ made. manager_script made.0 ≡ script.now) }
         ensures length { IfOk result (λ made. vec_len made.1 ≡ length script.now.bodies) }
         ensures passes { IfOk result (λ made. All (λ pass. IsPassOf made.0 pass) made.1.items) }
         ensures fresh { IfOk result (λ made. (k : ℕ) (pass : Pass) → slice_get made.1.items k ≡ Some pass → IsNewPass k pass) }
@@ -61,11 +61,11 @@ impl<'a> Manager<'a> {
     /// The recording begins with as many events of each thread as its pass had granted calls. Behind them are the steps
     /// made here. Its only error is want of memory.
     pub fn finish(self, alloc: Global, passes: Vec<Pass<'a>>) -> Result<Recording<'a>, OutOfMemory>
-        requires all { vec_len passes ≡ length (script_of self).bodies }
+        requires all { vec_len passes ≡ length (manager_script self).bodies }
         requires passes { All (λ pass. IsPassOf self pass) passes.items }
-        ensures script { IfOk result (λ r. r.machine.script ≡ script_of self.entry) }
+        ensures script { IfOk result (λ r. r.machine.script ≡ manager_script self.entry) }
         ensures recording { IfOk result (λ r. IsRecording r) }
-        ensures complete { IfOk result (λ r. IsComplete (script_of self.entry) (meaning r.machine)) }
+        ensures complete { IfOk result (λ r. IsComplete (manager_script self.entry) (meaning r.machine)) }
         ensures granted { IfOk result (λ r. AreGranted passes.entry.items r.trace.events) }
     {
         let seats = seats_of(alloc, passes)?;

@@ -9,6 +9,7 @@ use seat_lock::LockSeat;
 use sp_base::ThreadId;
 
 /// What a thread makes its calls with: the seat of its number in a manager's lock. It counts the calls that were granted.
+/// Contracts see its thread and that count.
 #[derive(Drop)]
 pub struct Pass<'a> {
     pub(crate) seat: LockSeat<LockState<'a>>,
@@ -20,6 +21,8 @@ pub struct Pass<'a> {
 }
 
 impl<'a> Pass<'a> {
+    ghost use Rattle.recorder.specs.Passes.{pass_thread, pass_granted};
+
     // The pass of the seat of this number, which has counted nothing.
     pub(crate) fn new(seat: LockSeat<LockState<'a>>, number: usize) -> Pass<'a>
         requires few { number < MAX_THREADS }
@@ -27,8 +30,8 @@ impl<'a> Pass<'a> {
         requires count { seat_count seat ≡ 0 }
         requires free { seat_taken seat ≡ None }
         ensures seat { result.seat ≡ seat.entry }
-        ensures thread { result.thread ≡ number }
-        ensures granted { result.granted ≡ 0 }
+        ensures thread { pass_thread result ≡ number }
+        ensures granted { pass_granted result ≡ 0 }
     {
         let Some(thread) = ThreadId::new(number as u16) else {
             unreachable!()
@@ -42,14 +45,14 @@ impl<'a> Pass<'a> {
 
     /// The thread that makes its calls with it.
     pub fn thread(&self) -> ThreadId
-        ensures { result ≡ self.now.thread }
+        ensures { result ≡ pass_thread self.now }
     {
         self.thread
     }
 
     /// How many of the thread's calls were granted.
     pub fn granted(&self) -> u32
-        ensures { result ≡ self.now.granted }
+        ensures { result ≡ pass_granted self.now }
     {
         self.granted
     }

@@ -3,7 +3,7 @@
 ghost use Rattle.std.specs.Prelude.{◌≡◌, ℕ, None, Some, All, IfOk, length, map, slice_get, vec_len};
 ghost use Rattle.script_machine.specs.ScriptBounds.{IsScript};
 ghost use Rattle.seat_lock.specs.Shown.{IsSeatWith};
-ghost use Rattle.recorder.specs.Passes.{script_of, IsPassOf, IsNewPass};
+ghost use Rattle.recorder.specs.Passes.{manager_script, IsPassOf, IsNewPass};
 ghost use Rattle.recorder.specs.declared.pass.Pass.{Pass};
 
 use crate::{Manager, Pass};
@@ -18,8 +18,8 @@ pub(crate) fn passes_of<'a>(
     manager: &Manager<'a>,
     seats: Vec<LockSeat<LockState<'a>>>,
 ) -> Result<Vec<Pass<'a>>, OutOfMemory>
-    requires script { IsScript (script_of manager.now) }
-    requires all { vec_len seats ≡ length (script_of manager.now).bodies }
+    requires script { IsScript (manager_script manager.now) }
+    requires all { vec_len seats ≡ length (manager_script manager.now).bodies }
     requires seats { (k : ℕ) (seat : _) → slice_get seats.items k ≡ Some seat → IsSeatWith manager.now.lock k 0 None seat }
     ensures length { IfOk result (λ passes. vec_len passes ≡ vec_len seats.entry) }
     ensures passes { IfOk result (λ passes. All (λ pass. IsPassOf manager.now pass) passes.items) }

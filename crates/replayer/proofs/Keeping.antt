@@ -24,23 +24,6 @@ pub record AreKeptBefore (trace : List Event) (keep : List ℕ) (n : ℕ) (left 
   pub order : Rises places
   pub members : (p : ℕ) → Contains places p ↔ ((p < n) × IsKept trace keep p)
 
--- nothing is kept at first
-pub kept_none : (trace : List Event) (keep left : List ℕ) → left ≡ keep → AreKeptBefore trace keep 0 left []
-kept_none trace keep left same = record {
-  size = ap length same;
-  rest = λ t k at. go t k at;
-  order = λ a b i j less at_a at_b. cc;
-  members = λ p. (λ c. absurd (contains_none p c), λ h. let less = h.0 in absurd (omega arith));
-}
-  where
-    go : (t k : ℕ) → slice_get left t ≡ Some k → k ≡ slice_index keep t - count_of trace t 0
-    go t k at =
-        let read : unwrap_or (slice_get keep t) 0 ≡ slice_index keep t = unwrap_or-slice_get keep t 0 in
-        let there : slice_get keep t ≡ Some k = ap (λ (l : List ℕ). slice_get l t) (sym same) ∙ at in
-        let is : unwrap_or (slice_get keep t) 0 ≡ k = ap (λ (o : Option ℕ). unwrap_or o 0) there in
-        let none : count_of trace t 0 ≡ 0 = refl in
-        omega arith
-
 -- the event at place n is of thread t
 module _ (trace : List Event) (keep : List ℕ) (n t : ℕ) (own : thread_at trace n ≡ Some t) where
   -- the place is one of the trace

@@ -77,12 +77,3 @@ pub picks_run : (script : Script) (h : History) (found : FoundDeadlock) (m : Hel
     → AllZip (λ p t. thread_at h.events p ≡ Some t) found.picks threads → All (IsRunningIn m) threads
 picks_run script h found m threads same there zip =
     all_partners (λ p t. thread_at h.events p ≡ Some t) (IsRunningIn m) found.picks threads zip (pick_runs script h found m same there)
-
--- the machine after the kept places, where the code's trace and its list of places are seen through other names
-pub machine_reaches_deadlock : (script : Script) (h trace : History) (found : FoundDeadlock) (m : Held) (places seen : List ℕ) → trace ≡ h → seen ≡ places → IsDeadlockOf h found
-    → AreKept trace.events found.keep places → FollowsKeep trace found.keep places → ReplaysTo script h.events seen (meaning m) → ReachesDeadlock script h found (meaning m)
-machine_reaches_deadlock script h trace found m places seen same_trace same is kept follows replayed =
-    reaches_deadlock script h found places (meaning m) is
-    (subst (λ x. AreKept x.events found.keep places) same_trace kept)
-    (subst (λ x. FollowsKeep x found.keep places) same_trace follows)
-    (subst (λ ps. ReplaysTo script h.events ps (meaning m)) same replayed)

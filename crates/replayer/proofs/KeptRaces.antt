@@ -75,24 +75,6 @@ both_run script h found m same there = all_two (IsRunningIn m) _ _
     (ready_runs script h.events there.places m there.reached.first same there.replayed there.reached.first_ready.now)
     (ready_runs script h.events there.places m there.reached.second same there.replayed there.reached.second_ready.now)
 
--- the machine after the kept places, where the code's trace and its list of places are seen through other names
-pub machine_reaches : (script : Script) (h trace : History) (found : FoundRace) (m : Held) (places seen : List ℕ) → trace ≡ h → seen ≡ places → IsRaceOf h found
-    → AreKept trace.events found.keep places → FollowsKeep trace found.keep places → ReplaysTo script h.events seen (meaning m) → ReachesRace script h found (meaning m)
-machine_reaches script h trace found m places seen same_trace same is kept follows replayed =
-    reaches_race script h found places (meaning m) is
-    (subst (λ x. AreKept x.events found.keep places) same_trace kept)
-    (subst (λ x. FollowsKeep x found.keep places) same_trace follows)
-    (subst (λ ps. ReplaysTo script h.events ps (meaning m)) same replayed)
-
--- the threads of the events at the two places
-pub threads_are : (script : Script) (h trace : History) (found : FoundRace) (s : State) (there : ReachesRace script h found s) → trace ≡ h
-    → (a b : Event) → slice_get trace.events found.later ≡ Some a → slice_get trace.events found.earlier ≡ Some b
-    → there.reached.first.thread ∷ there.reached.second.thread ∷ [] ≡ a.thread ∷ b.thread ∷ []
-threads_are script h trace found s there same a b at_a at_b =
-    let one : there.reached.first ≡ a = (let x = there.reached.at_first in let y = rw same at at_a in cc) in
-    let two : there.reached.second ≡ b = (let x = there.reached.at_second in let y = rw same at at_b in cc) in
-    (λ i. (one i).thread ∷ (two i).thread ∷ [])
-
 -- what the replay leaves
 pub is_replay : (script : Script) (h : History) (found : FoundRace) (m : Held) (threads : List ℕ) → m.script ≡ script → (there : ReachesRace script h found (meaning m))
     → there.reached.first.thread ∷ there.reached.second.thread ∷ [] ≡ threads → IsRaceReplay script h found (record { machine = m; threads = threads })

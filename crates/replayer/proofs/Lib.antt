@@ -10,4 +10,5 @@ pub mod Stuck
 pub mod KeptSteps
 pub mod KeptRaces
 pub mod KeptDeadlocks
+pub mod KeptFindings
 pub mod ThreeWrites

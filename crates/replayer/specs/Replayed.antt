@@ -30,6 +30,16 @@ abbrev pub IsFindingOf : History → Finding → Type 0
 IsFindingOf h (Race r keep) = IsRaceOf h (race_of (Race r keep))
 IsFindingOf h (Deadlock picks keep) = IsDeadlockOf h (deadlock_of (Deadlock picks keep))
 
+-- the picks of a finding: of a race the later place and then the earlier one, of a deadlock its picks
+abbrev pub picks_in : Finding → List ℕ
+picks_in (Race r keep) = r.later ∷ r.earlier ∷ []
+picks_in (Deadlock picks keep) = picks
+
+-- how many events of each thread a finding needs
+abbrev pub keep_in : Finding → List ℕ
+keep_in (Race r keep) = keep
+keep_in (Deadlock picks keep) = keep
+
 -- a machine, and threads of its script
 pub record Replayed : Type 0 where
   pub machine : Held

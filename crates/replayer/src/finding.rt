@@ -3,17 +3,16 @@
 ghost use Rattle.std.specs.Prelude.{◌≡◌, ◌<◌, All, IfOk, Some, length};
 ghost use Rattle.std.specs.List.{AllZip};
 ghost use Rattle.trace_laws.specs.Reordering.{CorrectReordering};
-ghost use Rattle.trace_laws.specs.Stored.{deadlock_of, race_of};
 ghost use Rattle.trace_laws.specs.Trace.{thread_at};
 ghost use Rattle.script_machine.specs.Held.{meaning};
 ghost use Rattle.replayer.specs.Replays.{ReplaysTo};
-ghost use Rattle.replayer.specs.Replayed.{IsDeadlockOf, IsDeadlockReplay, IsFindingOf, IsRaceOf, IsRaceReplay, IsReplayOf};
+ghost use Rattle.replayer.specs.Replayed.{IsFindingOf, IsReplayOf, keep_in, picks_in};
 
 use crate::{Reached, reorder};
 use script_machine::{Machine, Recording, Script};
 use sp_base::{OutOfMemory, ThreadId};
 use std::alloc::Global;
-use trace_laws::{Deadlock, Finding, Keep, Race, Trace};
+use trace_laws::{Finding, Keep, Trace};
 
 // The machine of the script after the recording's events at these places, each taken as a step from the start.
 fn machine_along<'a>(
@@ -36,25 +35,30 @@ fn machine_along<'a>(
     Ok(machine)
 }
 
-// The replay of a race.
-fn replay_race<'a>(
-    alloc: Global,
-    script: &'a Script,
-    recording: &Recording,
-    race: &Race,
-    keep: &Keep,
-) -> Result<Reached<'a>, OutOfMemory>
-    requires script { recording.now.machine.script ≡ script.now }
-    requires race { IsRaceOf recording.now.trace (race_of (Finding.Race race.now keep.now)) }
-    ensures { IfOk result (λ reached. IsRaceReplay script.now recording.now.trace (race_of (Finding.Race race.now keep.now)) reached) }
+// The picks of a finding: of a race the later place and then the earlier one, of a deadlock its picks.
+fn picks_of(alloc: Global, finding: &Finding) -> Result<Vec<u32>, OutOfMemory>
+    ensures { IfOk result (λ picks. picks.items ≡ picks_in finding.now) }
 {
-    let trace = recording.trace();
-    let places = reorder(alloc, trace, keep)?;
-    let machine = machine_along(alloc, script, recording, &places)?;
-    let later = trace.event(race.later).thread;
-    let earlier = trace.event(race.earlier).thread;
-    let threads = Vec::from_slice(alloc, [later, earlier].as_slice())?;
-    Ok(Reached::made(machine, threads))
+    match finding {
+        Finding::Race(race, _) => {
+            let picks = Vec::from_slice(alloc, [race.later, race.earlier].as_slice())?;
+            Ok(picks)
+        }
+        Finding::Deadlock(deadlock, _) => {
+            let picks = Vec::from_slice(alloc, deadlock.picks())?;
+            Ok(picks)
+        }
+    }
+}
+
+// How many events of each thread the finding needs.
+fn keep_of(finding: &Finding) -> &Keep
+    ensures { result.now ≡ keep_in finding.now }
+{
+    match finding {
+        Finding::Race(_, keep) => keep,
+        Finding::Deadlock(_, keep) => keep,
+    }
 }
 
 // The threads of the picks.
@@ -68,25 +72,6 @@ fn threads_of(alloc: Global, trace: &Trace, picks: &[u32]) -> Result<Vec<ThreadI
         threads.push_reserved(event.thread);
     }
     Ok(threads)
-}
-
-// The replay of a deadlock.
-fn replay_deadlock<'a>(
-    alloc: Global,
-    script: &'a Script,
-    recording: &Recording,
-    deadlock: &Deadlock,
-    keep: &Keep,
-) -> Result<Reached<'a>, OutOfMemory>
-    requires script { recording.now.machine.script ≡ script.now }
-    requires deadlock { IsDeadlockOf recording.now.trace (deadlock_of (Finding.Deadlock deadlock.now keep.now)) }
-    ensures { IfOk result (λ reached. IsDeadlockReplay script.now recording.now.trace (deadlock_of (Finding.Deadlock deadlock.now keep.now)) reached) }
-{
-    let trace = recording.trace();
-    let kept = reorder(alloc, trace, keep)?;
-    let machine = machine_along(alloc, script, recording, &kept)?;
-    let threads = threads_of(alloc, trace, deadlock.picks())?;
-    Ok(Reached::made(machine, threads))
 }
 
 /// Replays a finding of a recording: takes the kept events as steps of the script from the start.
@@ -105,10 +90,11 @@ pub fn replay<'a>(
     requires finding { IsFindingOf recording.now.trace finding.now }
     ensures { IfOk result (λ reached. IsReplayOf script.now recording.now.trace finding.now reached) }
 {
-    match finding {
-        Finding::Race(race, keep) => replay_race(alloc, script, recording, race, keep),
-        Finding::Deadlock(deadlock, keep) => {
-            replay_deadlock(alloc, script, recording, deadlock, keep)
-        }
-    }
+    let trace = recording.trace();
+    let keep = keep_of(finding);
+    let kept = reorder(alloc, trace, keep)?;
+    let machine = machine_along(alloc, script, recording, &kept)?;
+    let picks = picks_of(alloc, finding)?;
+    let threads = threads_of(alloc, trace, &picks)?;
+    Ok(Reached::made(machine, threads))
 }

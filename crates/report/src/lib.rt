@@ -1,4 +1,8 @@
 //! The texts of results, each written to a sink.
+//!
+//! Each text is that of its definition, or at a fault a front of it: it is gathered whole and written at once. The crate
+//! stands on the findings of `trace_laws`, the lines of `std_text`, the machine of `script_machine` and what `replayer`
+//! reached; it knows no search, no reader and no mode of the program.
 #![tactic(auto)]
 
 mod ends;
