@@ -15,7 +15,7 @@ use Rattle.closed_fronts.specs.Needs.{IsThreadBefore, IsWriterOfRead}
 use Rattle.closed_fronts.specs.Tables.{IsLatest, IsOwnBefore, IsJoinBefore}
 use Rattle.closed_fronts.proofs.Flags.{held_from_has, has_from_held}
 use Rattle.closed_fronts.proofs.Admissions.{closure_after}
-use Rattle.closed_fronts.specs.Rows.{IsSteady, AreWithin, IsMended, IsReady, IsRow}
+use Rattle.closed_fronts.specs.Rows.{IsImplied, IsSteady, AreWithin, IsMended, IsReady, IsRow}
 
 -- of places that are of a thread or fork it, the lesser comes before the greater
 pub tip_order : (events : List Event) → Lawful events → (t n i q : ℕ) → IsThreadBefore events t n i → IsThreadBefore events t n q → i ≤ q → (i ≡ q) ⊎ Before events i q
@@ -237,6 +237,10 @@ closed_from events threads cuts steady mended = record {
   writers = λ r x w reads last h. has_from_held events cuts w (steady.writers r x w reads last (held_from_has events cuts r h));
   releases = λ a b r excludes release first second. has_from_held events cuts r (mended a b r excludes release (held_from_has events cuts a first) (held_from_has events cuts b second));
 }
+
+-- what is in the row of a place that leads to another is in each closed set that holds all before the other
+pub implied_by_row : (events : List Event) (threads place q i : ℕ) (row : List ℕ) → IsOwnBefore events place q → IsRow events threads q row → IsHeld events row i → IsImplied events place i
+implied_by_row events threads place q i row own of_row held = λ set closed all. of_row.least set closed (all q (own_before events place q own)) i held
 
 -- the raised set is the closure
 pub closure_raised : (events : List Event) (threads place : ℕ) (a b c : List ℕ) → Admits events (λ i. Before events i place) a b → Admits events (λ _. ⊥) b c → IsSteady events threads c → IsMended events c

@@ -3,7 +3,7 @@ use Rattle.std.specs.Prelude.{◌≡◌, ◌<◌, ◌≤◌, ◌+◌, ℕ, max, 
 use Rattle.std.specs.declared.alloc.Global.{Global}
 use Rattle.trace_laws.specs.Event.{Event}
 use Rattle.trace_laws.specs.Trace.{thread_at, op_at, Acquires, Reads, Before, IsLastWrite, IsReleaseOf, Excludes}
-use Rattle.trace_laws.specs.Closed.{ClosedSet}
+use Rattle.trace_laws.specs.Closed.{ClosedSet, HoldsAll}
 use Rattle.closed_fronts.specs.Cuts.{IsHeld}
 use Rattle.closed_fronts.specs.Needs.{IsWriterOfRead}
 use Rattle.closed_fronts.specs.Tables.{IsLatest, AreTold, IsOwnBefore, IsJoinBefore}
@@ -53,6 +53,10 @@ pub record IsRow (events : List Event) (threads p : ℕ) (cuts : List ℕ) : Typ
   pub mended : IsMended events cuts
   pub holds : IsHeld events cuts p
   pub least : (other : ℕ → Bool) → ClosedSet events other → IsTrue (other p) → (i : ℕ) → IsHeld events cuts i → IsTrue (other i)
+
+-- place i is in every closed set that holds all places before the place in program order
+abbrev pub IsImplied : List Event → ℕ → ℕ → Type 0
+IsImplied events place i = (set : ℕ → Bool) → ClosedSet events set → HoldsAll (λ j. Before events j place) set → IsTrue (set i)
 
 -- for each place its row
 abbrev pub AreRows : List Event → ℕ → List (Vec ℕ Global) → Type 0

@@ -6,8 +6,9 @@ ghost use Rattle.trace_laws.specs.Traces.{IsTrace};
 ghost use Rattle.trace_laws.specs.Closed.{IsClosure};
 ghost use Rattle.trace_laws.specs.Findings.{HasCount};
 ghost use Rattle.closed_fronts.specs.Members.{has};
-ghost use Rattle.closed_fronts.specs.Cuts.{flags_of};
-ghost use Rattle.closed_fronts.specs.Rows.{IsSteady, IsMended, IsRow, AreRows, IsBelowCut, IsLocalBehind};
+ghost use Rattle.closed_fronts.specs.Cuts.{IsHeld, flags_of};
+ghost use Rattle.closed_fronts.specs.Tables.{IsAcquire, IsOuter, IsOpened, IsNextRow};
+ghost use Rattle.closed_fronts.specs.Rows.{IsSteady, IsMended, IsRow, AreRows, IsBelowCut, IsLocalBehind, IsImplied};
 ghost use Rattle.closed_fronts.specs.Needs.{IsWriterOfRead};
 
 use crate::mending::{admit_before, admit_itself, admit_writer, mend};
@@ -155,6 +156,16 @@ fn row_of(alloc: Global, ties: &Ties, rows: &[Vec<u32>], place: u32) -> Result<V
     }
 }
 
+// Whether a place is in a set by cuts.
+fn is_below(ties: &Ties, cuts: &[u32], place: u32) -> bool
+    requires size { length cuts.now ≡ ties.now.threads }
+    requires place { place < length ties.now.events }
+    ensures { IsTrue result → IsHeld ties.now.events cuts.now place }
+{
+    let event = ties.event(place);
+    place < cuts[event.thread.value() as usize]
+}
+
 // The rows of all places.
 fn rows_of(alloc: Global, ties: &Ties) -> Result<Vec<Vec<u32>>, OutOfMemory>
     ensures size { IfOk result (λ rows. length rows.items ≡ length ties.now.events) }
@@ -214,6 +225,43 @@ impl<'a> Fronts<'a> {
             return 0;
         }
         self.ties.local(cut - 1) + 1
+    }
+
+    /// The latest section of the thread of a place that is open just behind the place, by its acquire.
+    pub fn opened(&self, place: u32) -> Option<u32>
+        requires { place < length self.now.events }
+        ensures { IsOpened self.now.events place result }
+    {
+        self.ties.opened(place)
+    }
+
+    /// The latest section of the thread of a place that is open just before the place, by its acquire.
+    pub fn outer(&self, place: u32) -> Option<u32>
+        requires { place < length self.now.events }
+        ensures { IsOuter self.now.events place result }
+    {
+        self.ties.outer(place)
+    }
+
+    /// For each thread its first acquire behind an acquire of the same lock, or the number of all events.
+    pub fn next(&self, acquire: u32) -> &[u32]
+        requires { IsAcquire self.now.events acquire }
+        ensures { IsNextRow self.now.events self.now.threads acquire result.now }
+    {
+        self.ties.next(acquire)
+    }
+
+    /// Whether a place is in the row behind the latest place before the later one in its thread. Then it is in each
+    /// closed set that holds all places before the later one.
+    pub fn precedes(&self, place: u32, later: u32) -> bool
+        requires place { place < length self.now.events }
+        requires later { later < length self.now.events }
+        ensures { IsTrue result → IsImplied self.now.events later place }
+    {
+        let Some(source) = self.ties.own(later) else {
+            return false;
+        };
+        is_below(&self.ties, &self.rows[source as usize], place)
     }
 
     /// The set of the cuts becomes the least closed set that holds it and all places before the place in program order.

@@ -3,6 +3,8 @@
 ghost use Rattle.std.specs.Prelude.{ℕ, ◌≡◌, ◌<◌, ◌+◌, ◌↔◌, length, IfOk, IsTrue, Some};
 ghost use Rattle.trace_laws.specs.Trace.{Reads, op_at, IsWriter, IsReleaseOf};
 ghost use Rattle.trace_laws.specs.Kept.{local_of};
+ghost use Rattle.closed_fronts.specs.Tables.{IsOuter, IsOpened, IsNextRow};
+ghost use Rattle.closed_fronts.specs.Rows.{IsImplied};
 ghost use Rattle.trace_index.specs.Accessed.{AreAccesses, AreVariablesBelow};
 ghost use Rattle.trace_index.specs.Acquired.{AreAcquires, IsSectionAt};
 ghost use Rattle.trace_index.specs.HeldSets.{AreLocksBelow, IsAcquire, IsHeldAt, IsHeldSet, HaveSameHeld, HaveNoneCommon, IsFirstAlike};
@@ -110,6 +112,40 @@ impl<'a> Index<'a> {
         ensures { (r : ℕ) → (result ≡ Some r) ↔ IsReleaseOf self.now.events place r }
     {
         self.fronts.places().release(place)
+    }
+
+    /// The latest section of the thread of a place that is open just behind the place, by its acquire.
+    pub fn opened(&self, place: u32) -> Option<u32>
+        requires { place < length self.now.events }
+        ensures { IsOpened self.now.events place result }
+    {
+        self.fronts.opened(place)
+    }
+
+    /// The latest section of the thread of a place that is open just before the place, by its acquire.
+    pub fn outer(&self, place: u32) -> Option<u32>
+        requires { place < length self.now.events }
+        ensures { IsOuter self.now.events place result }
+    {
+        self.fronts.outer(place)
+    }
+
+    /// For each thread its first acquire behind an acquire of the same lock, or the number of all events.
+    pub fn next(&self, acquire: u32) -> &[u32]
+        requires { IsAcquire self.now.events acquire }
+        ensures { IsNextRow self.now.events self.now.threads acquire result.now }
+    {
+        self.fronts.next(acquire)
+    }
+
+    /// Whether it is told at once that a place is in each closed set that holds all places before a later one in program
+    /// order.
+    pub fn precedes(&self, place: u32, later: u32) -> bool
+        requires place { place < length self.now.events }
+        requires later { later < length self.now.events }
+        ensures { IsTrue result → IsImplied self.now.events later place }
+    {
+        self.fronts.precedes(place, later)
     }
 
     /// The places that read or write a variable, in the order of the trace.
