@@ -2,7 +2,8 @@
 //!
 //! An `Index` is made in one pass over a trace. It answers at once how many events of its thread stand before a place,
 //! which write a read reads, where the section of an acquire ends, which places access a variable, and what the thread of
-//! an acquire holds just before it.
+//! an acquire holds just before it; and which section of a lock by a thread has a number. Stands on the laws of traces and
+//! on the closed sets of places of `closed_fronts`, which it hands on, and must not know of races, patterns and searches.
 #![tactic(auto)]
 
 mod access_lists;
