@@ -4,3 +4,4 @@ pub mod Outside
 pub mod Pointers
 pub mod Grouping
 pub mod Adding
+pub mod Enclosing

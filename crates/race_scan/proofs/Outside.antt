@@ -2,17 +2,19 @@
 use Rattle.std.proofs.Common.{◌≡◌, ℕ, ◌<◌, ◌≤◌, Bool, false, List, [], ◌∷◌, ◌⊎◌, inl, inr, Some, sym, subst, ◌∙◌, arith}
 use Rattle.std.specs.Prelude.{IsTrue, nat_lt}
 use Rattle.trace_laws.specs.Event.{Event}
-use Rattle.trace_laws.specs.declared.event.Op.{Op}
-use Rattle.trace_laws.specs.declared.event.Op.TheVariants.{Acquire}
-use Rattle.trace_laws.specs.Trace.{thread_at, op_at, Before, Lawful, LockLaw, Excludes, IsReleaseOf, Writes}
+use Rattle.trace_laws.specs.Trace.{thread_at, op_at, Before, Lawful, Writes}
 use Rattle.trace_laws.specs.Reordering.{Accesses, Conflict}
 use Rattle.trace_laws.specs.Findings.{Races}
 use Rattle.trace_laws.specs.Closed.{ClosedSet, HoldsAll, IsClosureBefore, BeforeAny}
-use Rattle.trace_laws.proofs.Places.{three_way, event_of, before_less, contains_head, false_unless}
+use Rattle.trace_laws.proofs.Places.{three_way, before_less, contains_head, false_unless}
 use Rattle.trace_laws.proofs.ClosedSets.{reorderings_are_closed_lem}
 use Rattle.trace_laws.proofs.Enabling.{is_listed, listed_from_contains, contains_from_listed, listed_tells}
 use Rattle.closed_fronts.proofs.Flags.{less_from_test, test_from_less}
+use Rattle.closed_fronts.specs.Tables.{IsAcquire}
+use Rattle.closed_fronts.specs.Rows.{IsImplied}
+use Rattle.closed_fronts.proofs.Mends.{release_before}
 use Rattle.race_scan.specs.Passed.{IsOut}
+use Rattle.race_scan.specs.Enclosed.{IsBegun, IsTakenAgain, EndsBehind}
 use Rattle.race_scan.proofs.Pairs.{before_pair, pair_before}
 
 -- the place is in each closed set that has the places before it and before the later one
@@ -70,28 +72,41 @@ out_if_conflict trace later e out l le like op race = out (conflict_alike trace 
 pub out_on : (trace : List Event) (later l e : ℕ) → later ≤ l → thread_at trace l ≡ thread_at trace later → op_at trace l ≡ op_at trace later → IsOut trace later e → IsOut trace l e
 out_on trace later l e le like op out k after same one race = out k (omega arith) (same ∙ like) (one ∙ op) race
 
--- in a lawful trace the section of an acquire ends before the lock is acquired again
-release_before : (events : List Event) → Lawful events → (a b r : ℕ) → Excludes events a b → IsReleaseOf events a r → r < b
-release_before events lawful a b r excludes release = go (three_way r b)
+-- a place is out that is in each closed set that holds what comes before the later one
+pub implied_out : (trace : List Event) (later t e : ℕ) → thread_at trace later ≡ Some t → IsImplied trace later e → IsOut trace later e
+implied_out trace later t e is implied l le like op race = no_race trace e l forced race
   where
-    same_lock : release.lock ≡ excludes.lock
-    same_lock = let x = release.acquires.op in let y = excludes.first in cc
+    forced : IsForced trace e l
+    forced other closed holds = implied other closed (λ j h. thread_before trace t later l other le is (like ∙ is) closed (λ i b. holds i (pair_before trace e l i (inr b))) j h)
 
-    denied : b ≤ r → ⊥
-    denied past =
-        let found = event_of events b (Acquire excludes.lock) excludes.second in
-        let law : LockLaw events ◌<◌ b found.0.thread (Acquire excludes.lock) = subst (λ (o : Op). LockLaw events ◌<◌ b found.0.thread o) found.2 (lawful b found.0 found.1).locks in
-        law release.thread (record {
-          since = a;
-          acquired = record { thread = release.acquires.thread; op = excludes.first };
-          before = excludes.earlier;
-          kept = λ q releases after until. release.first q (record { thread = releases.thread; op = subst (λ (l : ℕ). op_at events q ≡ Some (Op.Release l)) (sym same_lock) releases.op }) after (omega arith);
-        })
+-- an access is no acquire
+not_acquire : (trace : List Event) (e x : ℕ) → Accesses trace e x → IsAcquire trace e → ⊥
+not_acquire trace e x (inl reads) (l, acquires) = let a = reads in let b = acquires in cc
+not_acquire trace e x (inr writes) (l, acquires) = let a = writes in let b = acquires in cc
 
-    go : (r < b) ⊎ ((r ≡ b) ⊎ (b < r)) → r < b
-    go (inl less) = less
-    go (inr (inl same)) = absurd (denied (omega arith))
-    go (inr (inr more)) = absurd (denied (omega arith))
+-- a place is out whose section ends behind it, and whose lock is taken again before the later place
+pub section_out : (trace : List Event) (later t u a e : ℕ) → thread_at trace later ≡ Some t → thread_at trace e ≡ Some u → IsBegun trace e a → IsTakenAgain trace a t later → EndsBehind trace a e → IsOut trace later e
+section_out trace later t u a e is_later is_e begun taken ends = out_if_conflict trace later e out
+  where
+    is_a : thread_at trace a ≡ Some u
+    is_a = begun.same ∙ is_e
+
+    is_end : thread_at trace ends.end ≡ Some u
+    is_end = let acquires = ends.release.acquires.thread in let releases = ends.release.releases.thread in let own = is_a in cc
+
+    out : Conflict trace e later → IsOut trace later e
+    out conflict l le like op race = no_race trace e l forced race
+      where
+        before : (a < e) ⊎ ((a ≡ e) ⊎ (e < a)) → a < e
+        before (inl less) = less
+        before (inr (inl same)) = absurd (not_acquire trace e conflict.var conflict.first (subst (IsAcquire trace) same begun.acquire))
+        before (inr (inr more)) = absurd (let within = begun.within in omega arith)
+
+        forced : IsForced trace e l
+        forced other closed holds = closed.program e ends.end (Before.same_thread u ends.behind is_e is_end)
+            (closed.releases a taken.again ends.end taken.excludes ends.release
+            (holds a (pair_before trace e l a (inl (Before.same_thread u (before (three_way a e)) is_a is_e))))
+            (holds taken.again (pair_before trace e l taken.again (inr (Before.same_thread t (let b = taken.before in omega arith) taken.is_of (like ∙ is_later))))))
 
 -- the places before a place of the trace are closed
 beginning_closed : (trace : List Event) → Lawful trace → (n : ℕ) → ClosedSet trace (λ i. nat_lt i n)

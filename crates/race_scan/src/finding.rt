@@ -14,27 +14,27 @@ use sp_base::{MAX_VARS, VarId};
 use sp_closure::Cursor;
 use std::alloc::{AllocError, Global};
 use trace_index::Index;
-use trace_laws::{Op, Race, Trace};
+use trace_laws::{Op, Race};
 
 // Lists the race of a place, where it has one.
 fn list_race(
-    trace: &Trace,
+    index: &Index<'_>,
     cursor: &mut Cursor<'_>,
     groups: &[Group],
     passed: &mut [usize],
     later: u32,
     races: &mut Vec<Race>,
 ) -> Result<(), AllocError>
-    requires trace { cursor.old.trace ≡ trace.now }
-    requires later { later < length trace.now.events }
-    requires groups { AreOfThreads trace.now.events groups.now }
-    requires all { (e : ℕ) → Conflict trace.now.events e later → HasPlace groups.now e }
-    requires passed { ArePassed trace.now.events later groups.now passed.old }
-    ensures trace { cursor.new.trace ≡ trace.now }
-    ensures passed { ArePassed trace.now.events later groups.now passed.new }
-    ensures adds { OnOk result (AddsRaces trace.now.events (λ l. l ≡ later) races.old.items races.new.items) }
+    requires trace { cursor.old.trace ≡ index.now }
+    requires later { later < length index.now.events }
+    requires groups { AreOfThreads index.now.events groups.now }
+    requires all { (e : ℕ) → Conflict index.now.events e later → HasPlace groups.now e }
+    requires passed { ArePassed index.now.events later groups.now passed.old }
+    ensures trace { cursor.new.trace ≡ index.now }
+    ensures passed { ArePassed index.now.events later groups.now passed.new }
+    ensures adds { OnOk result (AddsRaces index.now.events (λ l. l ≡ later) races.old.items races.new.items) }
 {
-    let Some(earlier) = partner(trace, cursor, groups, passed, later) else {
+    let Some(earlier) = partner(index, cursor, groups, passed, later) else {
         return Ok(());
     };
     races.push(Race { later, earlier })?;
@@ -43,7 +43,7 @@ fn list_race(
 
 // The same where the place has that operation.
 fn list_place(
-    trace: &Trace,
+    index: &Index<'_>,
     cursor: &mut Cursor<'_>,
     groups: &[Group],
     passed: &mut [usize],
@@ -51,27 +51,27 @@ fn list_place(
     op: &Op,
     races: &mut Vec<Race>,
 ) -> Result<(), AllocError>
-    requires trace { cursor.old.trace ≡ trace.now }
-    requires later { later < length trace.now.events }
-    requires groups { AreOfThreads trace.now.events groups.now }
-    requires all { (e l : ℕ) → op_at trace.now.events l ≡ Some op.now → Conflict trace.now.events e l → HasPlace groups.now e }
-    requires passed { ArePassedFrom trace.now.events op.now later groups.now passed.old }
+    requires trace { cursor.old.trace ≡ index.now }
+    requires later { later < length index.now.events }
+    requires groups { AreOfThreads index.now.events groups.now }
+    requires all { (e l : ℕ) → op_at index.now.events l ≡ Some op.now → Conflict index.now.events e l → HasPlace groups.now e }
+    requires passed { ArePassedFrom index.now.events op.now later groups.now passed.old }
     requires size { length passed.old ≡ length groups.now }
-    ensures trace { cursor.new.trace ≡ trace.now }
-    ensures passed { ArePassedFrom trace.now.events op.now later groups.now passed.new }
+    ensures trace { cursor.new.trace ≡ index.now }
+    ensures passed { ArePassedFrom index.now.events op.now later groups.now passed.new }
     ensures size { length passed.new ≡ length groups.now }
-    ensures adds { OnOk result (AddsRaces trace.now.events (IsThis trace.now.events later op.now) races.old.items races.new.items) }
+    ensures adds { OnOk result (AddsRaces index.now.events (IsThis index.now.events later op.now) races.old.items races.new.items) }
 {
-    if !has_op(trace, later, op) {
+    if !has_op(index, later, op) {
         return Ok(());
     }
-    list_race(trace, cursor, groups, passed, later, races)?;
+    list_race(index, cursor, groups, passed, later, races)?;
     Ok(())
 }
 
 // Lists the races of places of one thread with that operation.
 fn list_own(
-    trace: &Trace,
+    index: &Index<'_>,
     cursor: &mut Cursor<'_>,
     groups: &[Group],
     own: &[u32],
@@ -79,25 +79,25 @@ fn list_own(
     passed: &mut [usize],
     races: &mut Vec<Race>,
 ) -> Result<(), AllocError>
-    requires trace { cursor.old.trace ≡ trace.now }
-    requires own { AreOwn trace.now.events own.now }
-    requires groups { AreOfThreads trace.now.events groups.now }
-    requires all { (e l : ℕ) → op_at trace.now.events l ≡ Some op.now → Conflict trace.now.events e l → HasPlace groups.now e }
+    requires trace { cursor.old.trace ≡ index.now }
+    requires own { AreOwn index.now.events own.now }
+    requires groups { AreOfThreads index.now.events groups.now }
+    requires all { (e l : ℕ) → op_at index.now.events l ≡ Some op.now → Conflict index.now.events e l → HasPlace groups.now e }
     requires size { length passed.old ≡ length groups.now }
-    ensures trace { cursor.new.trace ≡ trace.now }
+    ensures trace { cursor.new.trace ≡ index.now }
     ensures size { length passed.new ≡ length groups.now }
-    ensures adds { OnOk result (AddsRaces trace.now.events (IsOwn trace.now.events own.now op.now) races.old.items races.new.items) }
+    ensures adds { OnOk result (AddsRaces index.now.events (IsOwn index.now.events own.now op.now) races.old.items races.new.items) }
 {
     passed.fill(0);
     for position in 0..own.len() {
-        list_place(trace, cursor, groups, passed, own[position], op, races)?;
+        list_place(index, cursor, groups, passed, own[position], op, races)?;
     }
     Ok(())
 }
 
 // Lists the races of places of one thread that access a variable.
 fn list_group(
-    trace: &Trace,
+    index: &Index<'_>,
     cursor: &mut Cursor<'_>,
     groups: &[Group],
     own: &[u32],
@@ -105,40 +105,40 @@ fn list_group(
     passed: &mut [usize],
     races: &mut Vec<Race>,
 ) -> Result<(), AllocError>
-    requires trace { cursor.old.trace ≡ trace.now }
-    requires own { AreOwn trace.now.events own.now }
-    requires groups { AreOfThreads trace.now.events groups.now }
-    requires all { (e l : ℕ) → Accesses trace.now.events l var → Conflict trace.now.events e l → HasPlace groups.now e }
+    requires trace { cursor.old.trace ≡ index.now }
+    requires own { AreOwn index.now.events own.now }
+    requires groups { AreOfThreads index.now.events groups.now }
+    requires all { (e l : ℕ) → Accesses index.now.events l var → Conflict index.now.events e l → HasPlace groups.now e }
     requires size { length passed.old ≡ length groups.now }
-    ensures trace { cursor.new.trace ≡ trace.now }
+    ensures trace { cursor.new.trace ≡ index.now }
     ensures size { length passed.new ≡ length groups.now }
-    ensures adds { OnOk result (AddsRaces trace.now.events (IsOwnAccess trace.now.events own.now var) races.old.items races.new.items) }
+    ensures adds { OnOk result (AddsRaces index.now.events (IsOwnAccess index.now.events own.now var) races.old.items races.new.items) }
 {
     let read = Op::Read(var);
-    list_own(trace, cursor, groups, own, &read, passed, races)?;
+    list_own(index, cursor, groups, own, &read, passed, races)?;
     let write = Op::Write(var);
-    list_own(trace, cursor, groups, own, &write, passed, races)?;
+    list_own(index, cursor, groups, own, &write, passed, races)?;
     Ok(())
 }
 
 // Lists the races on a variable whose accesses are grouped by thread.
 fn list_groups(
-    trace: &Trace,
+    index: &Index<'_>,
     cursor: &mut Cursor<'_>,
     groups: &[Group],
     var: VarId,
     passed: &mut [usize],
     races: &mut Vec<Race>,
 ) -> Result<(), AllocError>
-    requires trace { cursor.old.trace ≡ trace.now }
-    requires groups { AreGroups trace.now.events var groups.now }
+    requires trace { cursor.old.trace ≡ index.now }
+    requires groups { AreGroups index.now.events var groups.now }
     requires size { length passed.old ≡ length groups.now }
-    ensures trace { cursor.new.trace ≡ trace.now }
-    ensures adds { OnOk result (AddsRaces trace.now.events (λ l. Accesses trace.now.events l var) races.old.items races.new.items) }
+    ensures trace { cursor.new.trace ≡ index.now }
+    ensures adds { OnOk result (AddsRaces index.now.events (λ l. Accesses index.now.events l var) races.old.items races.new.items) }
 {
     for group in 0..groups.len() {
         list_group(
-            trace,
+            index,
             cursor,
             groups,
             &groups[group].places,
@@ -164,7 +164,7 @@ fn list_variable(
 {
     let groups = groups_of(alloc, index, var)?;
     let mut passed = vec![in alloc; 0; groups.len()]?;
-    list_groups(index.trace(), cursor, &groups, var, &mut passed, races)?;
+    list_groups(index, cursor, &groups, var, &mut passed, races)?;
     Ok(())
 }
 

@@ -37,7 +37,7 @@ fn group_of(alloc: Global, thread: u16, place: u32) -> Result<Group, AllocError>
     Ok(Group { thread, places })
 }
 
-// AddsRaces a place to a group.
+// Adds a place to a group.
 fn add(group: &mut Group, place: u32) -> Result<(), AllocError>
     ensures { OnOk result (IsLonger group.old place group.new) }
 {
@@ -62,12 +62,11 @@ fn note(alloc: Global, groups: &mut Vec<Group>, thread: u16, place: u32) -> Resu
 pub fn groups_of(alloc: Global, index: &Index<'_>, var: VarId) -> Result<Vec<Group>, AllocError>
     ensures { IfOk result (λ groups. AreGroups index.now.events var groups.items) }
 {
-    let trace = index.trace();
     let places = index.accesses(var);
     let mut groups = Vec::new(alloc);
     for position in 0..places.len() {
         let place = places[position];
-        note(alloc, &mut groups, thread_of(trace, place), place)?;
+        note(alloc, &mut groups, thread_of(index, place), place)?;
     }
     Ok(groups)
 }

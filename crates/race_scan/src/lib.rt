@@ -13,6 +13,7 @@ mod order;
 mod partners;
 mod passing;
 mod scan;
+mod sections;
 #[cfg(test)]
 mod tests;
 

@@ -10,7 +10,7 @@ ghost use Rattle.race_scan.specs.Passed.{ArePassed, AreReady, IsHead, IsEarliest
 use crate::groups::Group;
 use crate::passing::{pass_all, pass_tried};
 use sp_closure::Cursor;
-use trace_laws::Trace;
+use trace_index::Index;
 
 // A place of a group.
 #[derive(Clone, Copy)]
@@ -69,32 +69,32 @@ pub fn raise_pair(cursor: &mut Cursor<'_>, first: u32, second: u32)
 // The earliest place that the later place races with, of those that are not passed. The earliest of these is tried; where
 // it does not race, all that the set has of its group is passed.
 fn search(
-    trace: &Trace,
+    index: &Index<'_>,
     cursor: &mut Cursor<'_>,
     groups: &[Group],
     passed: &mut [usize],
     later: u32,
 ) -> Option<u32>
-    requires trace { cursor.old.trace ≡ trace.now }
-    requires later { later < length trace.now.events }
-    requires groups { AreOfThreads trace.now.events groups.now }
-    requires all { (e : ℕ) → Conflict trace.now.events e later → HasPlace groups.now e }
-    requires passed { ArePassed trace.now.events later groups.now passed.old }
-    requires ready { AreReady trace.now.events later groups.now passed.old }
-    ensures trace { cursor.new.trace ≡ trace.now }
-    ensures passed { ArePassed trace.now.events later groups.now passed.new }
-    ensures none { IfNone result (NoRaceBelow trace.now.events later later) }
-    ensures some { IfSome result (IsPartner trace.now.events later) }
+    requires trace { cursor.old.trace ≡ index.now }
+    requires later { later < length index.now.events }
+    requires groups { AreOfThreads index.now.events groups.now }
+    requires all { (e : ℕ) → Conflict index.now.events e later → HasPlace groups.now e }
+    requires passed { ArePassed index.now.events later groups.now passed.old }
+    requires ready { AreReady index.now.events later groups.now passed.old }
+    ensures trace { cursor.new.trace ≡ index.now }
+    ensures passed { ArePassed index.now.events later groups.now passed.new }
+    ensures none { IfNone result (NoRaceBelow index.now.events later later) }
+    ensures some { IfSome result (IsPartner index.now.events later) }
 {
     // A trace is lawful, as its length says.
-    let _ = trace.len();
+    let _ = index.trace().len();
     while let Some(head) = earliest(groups, passed, later) {
         raise_pair(cursor, head.place, later);
         if !cursor.has(head.place) {
             return Some(head.place);
         }
         let next = pass_tried(
-            trace,
+            index,
             cursor,
             &groups[head.group].places,
             later,
@@ -108,22 +108,22 @@ fn search(
 /// The same, where those places are passed first that are known to be out without a set. Where no other one stands before
 /// the later place, no set is made.
 pub fn partner(
-    trace: &Trace,
+    index: &Index<'_>,
     cursor: &mut Cursor<'_>,
     groups: &[Group],
     passed: &mut [usize],
     later: u32,
 ) -> Option<u32>
-    requires trace { cursor.old.trace ≡ trace.now }
-    requires later { later < length trace.now.events }
-    requires groups { AreOfThreads trace.now.events groups.now }
-    requires all { (e : ℕ) → Conflict trace.now.events e later → HasPlace groups.now e }
-    requires passed { ArePassed trace.now.events later groups.now passed.old }
-    ensures trace { cursor.new.trace ≡ trace.now }
-    ensures passed { ArePassed trace.now.events later groups.now passed.new }
-    ensures none { IfNone result (NoRaceBelow trace.now.events later later) }
-    ensures some { IfSome result (IsPartner trace.now.events later) }
+    requires trace { cursor.old.trace ≡ index.now }
+    requires later { later < length index.now.events }
+    requires groups { AreOfThreads index.now.events groups.now }
+    requires all { (e : ℕ) → Conflict index.now.events e later → HasPlace groups.now e }
+    requires passed { ArePassed index.now.events later groups.now passed.old }
+    ensures trace { cursor.new.trace ≡ index.now }
+    ensures passed { ArePassed index.now.events later groups.now passed.new }
+    ensures none { IfNone result (NoRaceBelow index.now.events later later) }
+    ensures some { IfSome result (IsPartner index.now.events later) }
 {
-    pass_all(trace, groups, passed, later);
-    search(trace, cursor, groups, passed, later)
+    pass_all(index, groups, passed, later);
+    search(index, cursor, groups, passed, later)
 }

@@ -7,29 +7,34 @@ ghost use Rattle.race_scan.specs.Passed.{ArePassed, AreReady, IsOut};
 
 use crate::candidates::do_conflict;
 use crate::groups::Group;
+use crate::sections::is_enclosed;
 use sp_closure::Cursor;
-use trace_laws::Trace;
+use trace_index::Index;
 
-// Whether a place is known to be out without a set: it does not conflict with the later place.
-fn is_out(trace: &Trace, place: u32, later: u32) -> bool
-    requires place { place < length trace.now.events }
-    requires later { later < length trace.now.events }
-    ensures out { result ≡ true → IsOut trace.now.events later place }
-    ensures conflict { result ≡ false → Conflict trace.now.events place later }
+// Whether a place is known to be out without a set: it does not conflict with the later place, or is in each closed set
+// that holds what comes before that, or stands in a section of a lock that is acquired between the two.
+fn is_out(index: &Index<'_>, place: u32, later: u32) -> bool
+    requires place { place < length index.now.events }
+    requires later { later < length index.now.events }
+    ensures out { result ≡ true → IsOut index.now.events later place }
+    ensures conflict { result ≡ false → Conflict index.now.events place later }
 {
-    if do_conflict(trace, place, later) {
-        return false;
+    if !do_conflict(index, place, later) {
+        return true;
     }
-    true
+    if index.precedes(place, later) {
+        return true;
+    }
+    is_enclosed(index, place, later)
 }
 
 // The first position from one on whose place does not stand before the later place, or is not known to be out.
-fn pass(trace: &Trace, places: &[u32], later: u32, start: usize) -> usize
-    requires places { (k e : ℕ) → slice_get places.now k ≡ Some e → e < length trace.now.events }
-    requires later { later < length trace.now.events }
+fn pass(index: &Index<'_>, places: &[u32], later: u32, start: usize) -> usize
+    requires places { (k e : ℕ) → slice_get places.now k ≡ Some e → e < length index.now.events }
+    requires later { later < length index.now.events }
     ensures from { start ≤ result }
-    ensures passed { (k e : ℕ) → start ≤ k → k < result → slice_get places.now k ≡ Some e → IsOut trace.now.events later e }
-    ensures conflict { (e : ℕ) → slice_get places.now result ≡ Some e → e < later → Conflict trace.now.events e later }
+    ensures passed { (k e : ℕ) → start ≤ k → k < result → slice_get places.now k ≡ Some e → IsOut index.now.events later e }
+    ensures conflict { (e : ℕ) → slice_get places.now result ≡ Some e → e < later → Conflict index.now.events e later }
 {
     let mut position = start;
     while position < places.len() {
@@ -37,7 +42,7 @@ fn pass(trace: &Trace, places: &[u32], later: u32, start: usize) -> usize
         if later <= place {
             return position;
         }
-        if !is_out(trace, place, later) {
+        if !is_out(index, place, later) {
             return position;
         }
         position += 1;
@@ -68,32 +73,32 @@ fn pass_inside(cursor: &Cursor<'_>, places: &[u32], later: u32, start: usize) ->
 
 /// Passes the places that are in the set, and behind them those that are known to be out.
 pub fn pass_tried(
-    trace: &Trace,
+    index: &Index<'_>,
     cursor: &Cursor<'_>,
     places: &[u32],
     later: u32,
     start: usize,
 ) -> usize
-    requires trace { cursor.now.trace ≡ trace.now }
-    requires places { (k e : ℕ) → slice_get places.now k ≡ Some e → e < length trace.now.events }
-    requires later { later < length trace.now.events }
+    requires trace { cursor.now.trace ≡ index.now }
+    requires places { (k e : ℕ) → slice_get places.now k ≡ Some e → e < length index.now.events }
+    requires later { later < length index.now.events }
     ensures from { (e : ℕ) → slice_get places.now start ≡ Some e → e < later → IsTrue (has cursor.now.members e) → start < result }
-    ensures passed { (k e : ℕ) → start ≤ k → k < result → slice_get places.now k ≡ Some e → IsTrue (has cursor.now.members e) ⊎ IsOut trace.now.events later e }
-    ensures conflict { (e : ℕ) → slice_get places.now result ≡ Some e → e < later → Conflict trace.now.events e later }
+    ensures passed { (k e : ℕ) → start ≤ k → k < result → slice_get places.now k ≡ Some e → IsTrue (has cursor.now.members e) ⊎ IsOut index.now.events later e }
+    ensures conflict { (e : ℕ) → slice_get places.now result ≡ Some e → e < later → Conflict index.now.events e later }
 {
     let inside = pass_inside(cursor, places, later, start);
-    pass(trace, places, later, inside)
+    pass(index, places, later, inside)
 }
 
 /// Passes places of each group that are known to be out.
-pub fn pass_all(trace: &Trace, groups: &[Group], passed: &mut [usize], later: u32)
-    requires later { later < length trace.now.events }
-    requires groups { AreOfThreads trace.now.events groups.now }
-    requires passed { ArePassed trace.now.events later groups.now passed.old }
-    ensures passed { ArePassed trace.now.events later groups.now passed.new }
-    ensures ready { AreReady trace.now.events later groups.now passed.new }
+pub fn pass_all(index: &Index<'_>, groups: &[Group], passed: &mut [usize], later: u32)
+    requires later { later < length index.now.events }
+    requires groups { AreOfThreads index.now.events groups.now }
+    requires passed { ArePassed index.now.events later groups.now passed.old }
+    ensures passed { ArePassed index.now.events later groups.now passed.new }
+    ensures ready { AreReady index.now.events later groups.now passed.new }
 {
     for group in 0..groups.len() {
-        passed[group] = pass(trace, &groups[group].places, later, passed[group]);
+        passed[group] = pass(index, &groups[group].places, later, passed[group]);
     }
 }

@@ -10,7 +10,7 @@ use std::test::Fail;
 use trace_index::Index;
 use trace_laws::{Builder, Event, Op, Race, Trace};
 
-// AddsRaces an event of one of two threads.
+// Adds an event of one of two threads.
 fn add(rt: &impl Abort, builder: &mut Builder, thread: ThreadId, op: Op)
     requires named { AreNamedBelow builder.old.events 2 }
     requires thread { thread < 2 }

@@ -12,11 +12,11 @@ list_group-requires-clause-own c =
     let test = c.loop-group-test.true in
     let end = c.loop-group.auto.group-end in
     let at : slice_get groups i ≡ Some g = slice_get-get_or groups i c.index-groups-group.result (omega arith) in
-    own_from_group c.args.trace.now.events g c.deref.result.now c.deref.ensures.value (c.requires.groups.each i g at)
+    own_from_group c.args.index.now.events g c.deref.result.now c.deref.ensures.value (c.requires.groups.each i g at)
 
 pub loop-group-preserved : goal.loop-group-preserved
 loop-group-preserved c =
-    let events = c.args.trace.now.events in
+    let events = c.args.index.now.events in
     let groups = c.args.groups.now in
     let i = c.loop-group.group in
     let g = slice_index_or groups i c.index-groups-group.result in
@@ -30,4 +30,4 @@ loop-group-preserved c =
     }
 
 pub returns-clause-adds : goal.returns-clause-adds
-returns-clause-adds c = groups_all c.args.trace.now.events c.args.groups.now c.loop-group.group c.args.var c.args.races.now.items c.loop-group.races.items c.requires.groups (let past = c.loop-group-test.false in omega arith) c.loop-group.invariant.adds
+returns-clause-adds c = groups_all c.args.index.now.events c.args.groups.now c.loop-group.group c.args.var c.args.races.now.items c.loop-group.races.items c.requires.groups (let past = c.loop-group-test.false in omega arith) c.loop-group.invariant.adds

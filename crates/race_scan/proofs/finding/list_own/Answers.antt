@@ -12,7 +12,7 @@ list_place-requires-clause-later c =
     let test = c.loop-position-test.true in
     let end = c.loop-position.auto.position-end in
     let at = slice_get-get_or own k 0 (omega arith) in
-    within_from_thread c.args.trace.now.events (slice_index own k) c.requires.own.thread (c.requires.own.is_of k (slice_index own k) at)
+    within_from_thread c.args.index.now.events (slice_index own k) c.requires.own.thread (c.requires.own.is_of k (slice_index own k) at)
 
 pub list_place-requires-clause-passed : goal.list_place-requires-clause-passed
 list_place-requires-clause-passed c =
@@ -25,7 +25,7 @@ list_place-requires-clause-passed c =
 
 pub loop-position-preserved : goal.loop-position-preserved
 loop-position-preserved c =
-    let events = c.args.trace.now.events in
+    let events = c.args.index.now.events in
     let own = c.args.own.now in
     let op = c.args.op.now in
     let groups = c.args.groups.now in
@@ -43,4 +43,4 @@ loop-position-preserved c =
     }
 
 pub returns-clause-adds : goal.returns-clause-adds
-returns-clause-adds c = own_all c.args.trace.now.events c.args.own.now c.loop-position.position c.args.op.now c.args.races.now.items c.loop-position.races.items (let past = c.loop-position-test.false in omega arith) c.loop-position.invariant.adds
+returns-clause-adds c = own_all c.args.index.now.events c.args.own.now c.loop-position.position c.args.op.now c.args.races.now.items c.loop-position.races.items (let past = c.loop-position-test.false in omega arith) c.loop-position.invariant.adds

@@ -1,8 +1,6 @@
-use Rattle.std.proofs.Common.{◌≡◌, ◌<◌, Some, length, sym, subst, arith}
+use Rattle.std.proofs.Common.{arith}
 use Rattle.std.specs.Prelude.{slice_index}
 use Rattle.std.proofs.lemmas.Option.{slice_get-get_or}
-use Rattle.trace_laws.specs.Traces.{History}
-use Rattle.trace_laws.specs.Trace.{thread_at}
 use Rattle.trace_laws.proofs.Places.{contains_at}
 use Rattle.trace_index.proofs.Accessing.{access_within}
 use Rattle.race_scan.proofs.Grouping.{noted_step, noted_all}
@@ -15,8 +13,7 @@ thread_of-requires c =
     let test = c.loop-position-test.true in
     let end = c.loop-position.auto.position-end in
     let at = slice_get-get_or places k 0 (omega arith) in
-    let within = access_within c.args.index.now.events (slice_index places k) c.args.var ((c.accesses-places.ensures.members (slice_index places k)).0 (contains_at places k (slice_index places k) at)) in
-    subst (λ (h : History). slice_index places k < length h.events) (sym c.trace-trace.ensures.value) within
+    access_within c.args.index.now.events (slice_index places k) c.args.var ((c.accesses-places.ensures.members (slice_index places k)).0 (contains_at places k (slice_index places k) at))
 
 pub loop-position-preserved : goal.loop-position-preserved
 loop-position-preserved c =
@@ -27,8 +24,7 @@ loop-position-preserved c =
     let test = c.loop-position-test.true in
     let end = c.loop-position.auto.position-end in
     let at = slice_get-get_or places k 0 (omega arith) in
-    let is = subst (λ (h : History). thread_at h.events place ≡ Some c.thread_of.result) c.trace-trace.ensures.value c.thread_of.ensures in
-    noted_step events places k c.thread_of.result place c.loop-position.groups.items c.note.new.groups.items c.accesses-places.ensures.order at is c.loop-position.invariant c.in_ok-note.ensures
+    noted_step events places k c.thread_of.result place c.loop-position.groups.items c.note.new.groups.items c.accesses-places.ensures.order at c.thread_of.ensures c.loop-position.invariant c.in_ok-note.ensures
 
 pub returns : goal.returns
 returns c = noted_all c.args.index.now.events c.args.var c.loop-position.position c.accesses-places.result.now c.loop-position.groups.items c.accesses-places.ensures c.loop-position-test.false c.loop-position.invariant

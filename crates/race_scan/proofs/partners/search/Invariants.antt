@@ -4,9 +4,9 @@ use Rattle.race_scan.proofs.partners.search.Given as goal
 
 abbrev pub invariant-loop-head : goal.invariant-loop-head
 invariant-loop-head l = record {
-  trace : l.cursor.trace ≡ l.trace;
-  passed : ArePassed l.trace.events l.later l.groups l.passed;
-  ready : AreReady l.trace.events l.later l.groups l.passed;
+  trace : l.cursor.trace ≡ l.index;
+  passed : ArePassed l.index.events l.later l.groups l.passed;
+  ready : AreReady l.index.events l.later l.groups l.passed;
 }
 
 abbrev pub decreases-loop-head : goal.decreases-loop-head

@@ -14,7 +14,7 @@ loop-position-preserved c =
     let place = slice_index_or places at 0 in
     record {
       from = omega arith;
-      passed = passed_one_more (IsOut c.args.trace.now.events c.args.later) places c.args.start at place (slice_get-get_or places at 0 (omega arith)) c.loop-position.invariant.passed (c.is_out.ensures.out c.if-not-is_out.false);
+      passed = passed_one_more (IsOut c.args.index.now.events c.args.later) places c.args.start at place (slice_get-get_or places at 0 (omega arith)) c.loop-position.invariant.passed (c.is_out.ensures.out c.if-not-is_out.false);
     }
 
 pub returns-clause-conflict : goal.returns-clause-conflict

@@ -6,7 +6,7 @@ use Rattle.race_scan.proofs.passing.pass.Given as goal
 abbrev pub invariant-loop-position : goal.invariant-loop-position
 invariant-loop-position l = record {
   from : l.start ≤ l.position;
-  passed : (k e : ℕ) → l.start ≤ k → k < l.position → slice_get l.places k ≡ Some e → IsOut l.trace.events l.later e;
+  passed : (k e : ℕ) → l.start ≤ k → k < l.position → slice_get l.places k ≡ Some e → IsOut l.index.events l.later e;
 }
 
 abbrev pub decreases-loop-position : goal.decreases-loop-position

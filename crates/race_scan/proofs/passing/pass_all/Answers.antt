@@ -13,11 +13,11 @@ pass-requires-clause-places c = λ k e at.
     let test = c.loop-group-test.true in
     let end = c.loop-group.auto.group-end in
     let group_at : slice_get groups i ≡ Some g = slice_get-get_or groups i c.index-groups-group.result (omega arith) in
-    within_from_thread c.args.trace.now.events e g.thread ((c.requires.groups i g group_at).of_thread k e (subst (λ (xs : List ℕ). slice_get xs k ≡ Some e) c.deref.ensures.value at))
+    within_from_thread c.args.index.now.events e g.thread ((c.requires.groups i g group_at).of_thread k e (subst (λ (xs : List ℕ). slice_get xs k ≡ Some e) c.deref.ensures.value at))
 
 pub loop-group-preserved : goal.loop-group-preserved
 loop-group-preserved c =
-    let events = c.args.trace.now.events in
+    let events = c.args.index.now.events in
     let later = c.args.later in
     let groups = c.args.groups.now in
     let passed = c.loop-group.passed in

@@ -22,7 +22,7 @@ pub returns-clause-passed : goal.returns-clause-passed
 returns-clause-passed c = λ k e after less at. go k e after less at (three_way k c.pass_inside-inside.result)
   where
     go : (k e : ℕ) → c.args.start ≤ k → k < c.pass.result → slice_get c.args.places.now k ≡ Some e
-        → (k < c.pass_inside-inside.result) ⊎ ((k ≡ c.pass_inside-inside.result) ⊎ (c.pass_inside-inside.result < k)) → IsTrue (has c.args.cursor.now.members e) ⊎ IsOut c.args.trace.now.events c.args.later e
+        → (k < c.pass_inside-inside.result) ⊎ ((k ≡ c.pass_inside-inside.result) ⊎ (c.pass_inside-inside.result < k)) → IsTrue (has c.args.cursor.now.members e) ⊎ IsOut c.args.index.now.events c.args.later e
     go k e after less at (inl first) = inl (c.pass_inside-inside.ensures.passed k e after first at)
     go k e after less at (inr (inl same)) = inr (c.pass.ensures.passed k e (omega arith) less at)
     go k e after less at (inr (inr more)) = inr (c.pass.ensures.passed k e (omega arith) less at)
