@@ -12,10 +12,10 @@ use Rattle.pattern_walk.specs.Listed.{HasMorePatterns}
 use Rattle.drawn_trace.specs.Drawn.{drawn_text, IsReadable}
 use Rattle.syncp.specs.declared.outcome.Fault.{Fault}
 use Rattle.syncp.specs.declared.outcome.Fault.TheVariants as fault
-use Rattle.syncp.specs.declared.mode.Mode.TheVariants as mode
+use Rattle.command_words.specs.declared.mode.Mode.TheVariants as mode
 use Rattle.syncp.specs.declared.outcome.Outcome.{Outcome}
 use Rattle.syncp.specs.declared.outcome.Outcome.TheVariants as outcome
-use Rattle.syncp.specs.declared.words.Words.{Words}
+use Rattle.command_words.specs.declared.words.Words.{Words}
 use Rattle.syncp.specs.Faults.{refusal_with}
 use Rattle.syncp.specs.Drawing.{HasFewDrawn, HasManyDrawn, IsBench, IsDrawn, IsDrawnTrace, bench_text}
 use Rattle.syncp.specs.Output.{whole_reading}

@@ -6,8 +6,6 @@ pub mod Recordings
 pub mod TraceBehind
 pub mod Gathering
 pub mod InputParts
-pub mod Options
-pub mod Readings
 pub mod Replaying
 pub mod InputReplays
 pub mod ReplayNames

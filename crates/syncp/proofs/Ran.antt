@@ -12,7 +12,7 @@ use Rattle.script_machine.specs.Laws.{ExclusiveLaw, OfLaw}
 use Rattle.script_machine.specs.Machine.{LegalRun}
 use Rattle.script_machine.specs.OfTrace.{IsFirstNoStep}
 use Rattle.script_machine.specs.ScriptText.{FirstFault}
-use Rattle.syncp.specs.declared.words.Words.{Words}
+use Rattle.command_words.specs.declared.words.Words.{Words}
 use Rattle.syncp.specs.declared.outcome.Fault.{Fault}
 use Rattle.syncp.specs.declared.outcome.Fault.TheVariants as fault
 use Rattle.syncp.specs.declared.outcome.Outcome.TheVariants as outcome

@@ -5,8 +5,6 @@ pub mod Run
 pub mod Recorded
 pub mod Modes
 pub mod Statuses
-pub mod Words
-pub mod Parsed
 pub mod Tasks
 pub mod Witnesses
 pub mod Inputs

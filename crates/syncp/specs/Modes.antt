@@ -1,16 +1,11 @@
--- The modes by their names, and what each task makes of an input. Ended says that the source is at its end.
-use Rattle.std.specs.Prelude.{◌≡◌, ◌≤◌, ◌⊎◌, ℕ, Bool, true, false, List, [], length, nat_eq, codes, if◌then◌else◌}
-use Rattle.std.specs.declared.option.Option.{Option}
-use Rattle.std.specs.declared.option.Option.TheVariants.{None, Some}
-use Rattle.std.specs.Cmp.Lexicographic.{pointwise}
+-- What each task makes of an input. Ended says that the source is at its end.
+use Rattle.std.specs.Prelude.{◌≡◌, ◌≤◌, ◌⊎◌, ℕ, Bool, true, false, List, [], length}
 use Rattle.sp_base.specs.Moves.{IsFront}
 use Rattle.sp_base.specs.declared.limits.TheConstants.{MAX_INPUT}
 use Rattle.std_text.specs.Framing.{Progress}
 use Rattle.std_text.specs.Refusal.{LineFault}
 use Rattle.script_machine.specs.Machine.{Script as Program}
 use Rattle.script_machine.specs.ScriptText.{FirstFault}
-use Rattle.syncp.specs.declared.mode.Mode.{Mode}
-use Rattle.syncp.specs.declared.mode.Mode.TheVariants as mode
 use Rattle.syncp.specs.declared.outcome.Fault.{Fault}
 use Rattle.syncp.specs.declared.outcome.Fault.TheVariants.{Text, Script, NotAStep, TooManyPatterns, NoFinding}
 use Rattle.syncp.specs.Faults.{refusal_with}
@@ -24,17 +19,6 @@ use Rattle.syncp.specs.Runs.{IsRunOf, IsCutRunOf}
 use Rattle.syncp.specs.Drawing.{IsBench, HasFewDrawn, HasManyDrawn}
 use Rattle.syncp.specs.Tasks.{Task, Predict, Record, Witness, Replay, Run, Bench}
 use Rattle.syncp.specs.Witnesses.{IsWitness, HasFinding, LacksFinding}
-
--- the mode of a word
-abbrev pub mode_named : List ℕ → Option Mode
-mode_named word =
-    if pointwise nat_eq word (codes "predict") then Some mode.Predict
-    else if pointwise nat_eq word (codes "record") then Some mode.Record
-    else if pointwise nat_eq word (codes "witness") then Some mode.Witness
-    else if pointwise nat_eq word (codes "replay") then Some mode.Replay
-    else if pointwise nat_eq word (codes "run") then Some mode.Run
-    else if pointwise nat_eq word (codes "bench") then Some mode.Bench
-    else None
 
 -- the input is in the grammar of the task: it is a trace text, which has the finding that is asked for, a script of no
 -- more bytes than an input may have, or such a script with a run of it; the trace, or the one that is drawn, has not too

@@ -1,8 +1,8 @@
 -- What the program is asked to do.
 use Rattle.std.specs.Prelude.{◌≡◌, ℕ, List, Option, Some}
-use Rattle.syncp.specs.declared.mode.Mode.{Mode}
-use Rattle.syncp.specs.declared.mode.Mode.TheVariants as mode
-use Rattle.syncp.specs.declared.words.Words.{Words}
+use Rattle.command_words.specs.declared.mode.Mode.{Mode}
+use Rattle.command_words.specs.declared.mode.Mode.TheVariants as mode
+use Rattle.command_words.specs.declared.words.Words.{Words}
 
 -- A mode with what it is asked for: deadlock patterns have at most that size, the witness is that of the finding of a
 -- number, and a trace of so many events is drawn from a seed.

@@ -12,9 +12,9 @@ ghost use Rattle.syncp.specs.Tasks.{Bench};
 
 use crate::answer::{sink_with, write_answer};
 use crate::behind::trace_behind;
-use crate::command::{MAX_DRAWN_EVENTS, MAX_SEED, MIN_DRAWN_EVENTS};
 use crate::outcome::{Fault, Outcome};
 use crate::report_of::report_of;
+use command_words::{MAX_DRAWN_EVENTS, MAX_SEED, MIN_DRAWN_EVENTS};
 use drawn_trace::draw;
 use predictor::{FindFault, find};
 use report::{count_of_races, last_line};

@@ -8,13 +8,11 @@ mod behind;
 mod bench;
 #[cfg(test)]
 mod bench_tests;
-mod command;
 #[cfg(test)]
 mod deadlock_tests;
 mod fault_line;
 #[cfg(test)]
 mod meeting;
-mod mode;
 mod outcome;
 mod parts;
 mod predicted;
@@ -42,9 +40,6 @@ mod whole_text;
 #[cfg(test)]
 mod witness_tests;
 mod witness_text;
-mod words;
-#[cfg(test)]
-mod words_tests;
 
 use outcome::Status;
 use run::run;

@@ -9,20 +9,19 @@ ghost use Rattle.syncp.specs.Outcome as outcome;
 ghost use Rattle.syncp.specs.Output.{IsWithinLimit};
 ghost use Rattle.syncp.specs.Run.{Means, Leaves, TellsOf, IsAnswered};
 ghost use Rattle.syncp.specs.Tasks.{HasInput, HasRead, task_of};
-ghost use Rattle.syncp.specs.Words.{IsInRange, reading_of};
-ghost use Rattle.syncp.specs.declared.words.Words.{Words as Reading};
+ghost use Rattle.command_words.specs.Words.{KeepsRanges, reading_of};
+ghost use Rattle.command_words.specs.declared.words.Words.{Words as Reading};
 
 use crate::analyse::analyse;
 use crate::bench::bench;
 use crate::fault_line::line_of;
-use crate::mode::Mode;
 use crate::outcome::{Fault, Outcome, Status};
 use crate::reach::reach;
 use crate::record_mode::record_scripts;
 use crate::run_mode::run_scripts;
 use crate::show::show;
 use crate::status::status_of;
-use crate::words::{Words, WordsFault, read_words};
+use command_words::{Mode, Words, WordsFault, read_words};
 use sp_base::{Gate, Sink, Source, WriteFault, write_all};
 use std::alloc::Global;
 use std::sync::Wait;
@@ -98,7 +97,7 @@ fn run_in<R: Threads + Wait + Sync, S: Source, K: Sink, E: Sink, G: Gate + Sync>
     err: &mut E,
     gate: &G,
 ) -> Status
-    requires { IsInRange reading }
+    requires { KeepsRanges reading }
     ensures outcome { Took (S.left source.old) (S.left source.new) (λ input. IsWithinLimit input ×
         Gained (K.text out.old) (K.text out.new) (λ text.
         Gained (E.text err.old) (E.text err.new) (λ line.
@@ -125,7 +124,7 @@ fn outcome_of<R: Threads + Wait + Sync, S: Source, K: Sink, G: Gate + Sync>(
     out: &mut K,
     gate: &G,
 ) -> Outcome
-    requires { IsInRange reading }
+    requires { KeepsRanges reading }
     ensures outcome { Took (S.left source.old) (S.left source.new) (λ input. IsWithinLimit input ×
         Gained (K.text out.old) (K.text out.new) (Explains (task_of reading) (HasRead (task_of reading) (IsAtEnd (S.left source.new))) result input)) }
     ensures ended { outcome.IsDone result → HasRead (task_of reading) (IsAtEnd (S.left source.new)) }

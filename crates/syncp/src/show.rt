@@ -9,10 +9,10 @@ ghost use Rattle.syncp.specs.Output.{IsWithinLimit};
 ghost use Rattle.syncp.specs.Tasks.{Witness};
 
 use crate::answer::{sink_with, write_answer};
-use crate::command::MAX_FINDING;
 use crate::outcome::{Fault, Outcome};
 use crate::predicted::read_predicted;
 use crate::witness_text::witness_text;
+use command_words::MAX_FINDING;
 use sp_base::{Gate, MAX_SIZE, MAX_WORKERS, MIN_SIZE, Sink, Source, SureSink};
 use std::alloc::Global;
 use std::thread::Threads;

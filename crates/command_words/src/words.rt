@@ -1,12 +1,12 @@
 // What the words of the command line mean.
 ghost use Rattle.std.specs.Prelude.{◌≡◌, IfOk, codes, map, option_and_then, string_bytes};
 ghost use Rattle.clap.specs.Words.{first_value, found_of, kind_of, rows_of};
-ghost use Rattle.syncp.specs.Modes.{mode_named};
-ghost use Rattle.syncp.specs.Parsed.{HasNumber, HasNumbers, Parses};
-ghost use Rattle.syncp.specs.Words.{IsInRange, Reads, number_of, reading_in, reading_of};
+ghost use Rattle.command_words.specs.ModeNames.{mode_named};
+ghost use Rattle.command_words.specs.Parsed.{HasNumber, HasNumbers, Parses};
+ghost use Rattle.command_words.specs.Words.{KeepsRanges, AnswersReading, option_value, reading_in, reading_of};
 
-use crate::command::{MODE_NAMES, command};
-use crate::mode::{Mode, named};
+use crate::command::command;
+use crate::mode::{Mode, list_of_modes, named};
 use clap::ArgMatches;
 use clap::error::ErrorKind;
 use std::alloc::{AllocError, Global};
@@ -41,7 +41,7 @@ pub enum WordsFault {
 }
 
 impl From<AllocError> for WordsFault {
-    ghost use Rattle.syncp.specs.declared.words.WordsFault.TheVariants.{OutOfMemory};
+    ghost use Rattle.command_words.specs.declared.words.WordsFault.TheVariants.{OutOfMemory};
 
     ghost from_gives = { λ _ e. e ≡ OutOfMemory };
 
@@ -63,11 +63,15 @@ fn fault_with_text(alloc: Global, error: &clap::Error) -> WordsFault
     }
 }
 
-// The matches of the words, where the command takes them.
-fn parse<'a>(alloc: Global, words: &'a [String]) -> Result<ArgMatches<'a>, WordsFault>
+// The matches of the words, where the command takes them. The text `modes` lists the modes.
+fn parse<'a>(
+    alloc: Global,
+    modes: &'a str,
+    words: &'a [String],
+) -> Result<ArgMatches<'a>, WordsFault>
     ensures { Parses (map string_bytes words.entry.now) result }
 {
-    let command = command(alloc)?;
+    let command = command(alloc, modes)?;
     match command.try_get_matches_from(words) {
         Ok(matches) => Ok(matches),
         Err(error) => Err(fault_with_text(alloc, &error)),
@@ -82,10 +86,14 @@ fn named_mode(matches: &ArgMatches<'_>) -> Option<Mode>
 }
 
 // The text that refuses a name of no mode, in the form of clap's own.
-fn unknown_mode(alloc: Global, matches: &ArgMatches<'_>) -> Result<String, AllocError> {
+fn unknown_mode(
+    alloc: Global,
+    modes: &str,
+    matches: &ArgMatches<'_>,
+) -> Result<String, AllocError> {
     let name = matches.get_str("mode").unwrap_or("");
-    let message = format!(in alloc; "invalid value '{name}' for '<mode>'\n  {MODE_NAMES}")?;
-    let mut command = command(alloc)?;
+    let message = format!(in alloc; "invalid value '{name}' for '<mode>'\n  {modes}")?;
+    let mut command = command(alloc, modes)?;
     let error = command.error(ErrorKind::InvalidValue, message.as_str())?;
     format!(in alloc; "{error}")
 }
@@ -93,7 +101,7 @@ fn unknown_mode(alloc: Global, matches: &ArgMatches<'_>) -> Result<String, Alloc
 // The number of an option.
 fn number(matches: &ArgMatches<'_>, name: &str) -> u64
     requires { HasNumber (found_of matches.now) name.now }
-    ensures { result ≡ number_of name.now (rows_of (found_of matches.now)) }
+    ensures { result ≡ option_value name.now (rows_of (found_of matches.now)) }
 {
     let Some(number) = matches.get_one::<u64>(name) else {
         unreachable!()
@@ -105,7 +113,7 @@ fn number(matches: &ArgMatches<'_>, name: &str) -> u64
 fn reading_in(matches: &ArgMatches<'_>, mode: Mode) -> Words
     requires { HasNumbers (found_of matches.now) }
     ensures reading { result ≡ reading_in (rows_of (found_of matches.now)) mode }
-    ensures range { IsInRange result }
+    ensures range { KeepsRanges result }
 {
     Words {
         mode,
@@ -123,12 +131,13 @@ fn reading_in(matches: &ArgMatches<'_>, mode: Mode) -> Words
 /// `Usage` comes only where the words have no reading: where the command does not take them, help is asked for or MODE
 /// names no mode. They are read wherever they have a reading, unless memory runs out.
 pub fn read_words(alloc: Global, words: &[String]) -> Result<Words, WordsFault>
-    ensures reading { Reads (reading_of (map string_bytes words.now)) result }
-    ensures range { IfOk result IsInRange }
+    ensures reading { AnswersReading (reading_of (map string_bytes words.now)) result }
+    ensures range { IfOk result KeepsRanges }
 {
-    let matches = parse(alloc, words)?;
+    let modes = list_of_modes(alloc)?;
+    let matches = parse(alloc, modes.as_str(), words)?;
     let Some(mode) = named_mode(&matches) else {
-        return Err(WordsFault::Usage(unknown_mode(alloc, &matches)?));
+        return Err(WordsFault::Usage(unknown_mode(alloc, modes.as_str(), &matches)?));
     };
     Ok(reading_in(&matches, mode))
 }

@@ -1,8 +1,8 @@
 use Rattle.std.proofs.Common.{◌∙◌, ap, ap₂}
 use Rattle.std.proofs.lemmas.Result.{IfOk-weaker}
 use Rattle.clap.specs.Simple.{app_of_fields, with_rule}
-use Rattle.syncp.specs.Words.{events_rule, seed_rule, size_rule, workers_rule}
-use Rattle.syncp.proofs.command.command.Goals as goal
+use Rattle.command_words.specs.Words.{events_rule, seed_rule, size_rule, workers_rule}
+use Rattle.command_words.proofs.command.command.Goals as goal
 
 pub returns : goal.returns
 returns c =

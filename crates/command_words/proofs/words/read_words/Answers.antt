@@ -1,9 +1,9 @@
 use Rattle.std.proofs.Common.{rules, ◌∙◌, Some, map, string_bytes, ap, sym}
 use Rattle.std.specs.Option.{option_map}
 use Rattle.clap.specs.Words.{found_of, rows_of}
-use Rattle.syncp.specs.Words.{reading_in}
-use Rattle.syncp.proofs.Readings.{meaning, no_meaning}
-use Rattle.syncp.proofs.words.read_words.Goals as goal
+use Rattle.command_words.specs.Words.{reading_in}
+use Rattle.command_words.proofs.Readings.{meaning, no_meaning}
+use Rattle.command_words.proofs.words.read_words.Goals as goal
 
 pub returns-in_default-clause-reading : goal.returns-in_default-clause-reading
 returns-in_default-clause-reading c =

@@ -7,12 +7,12 @@ use Rattle.clap.specs.Words.{App, Row, Rule, Text, fault_of, first_of, matches_o
 use Rattle.clap.specs.declared.builder.value_parser.ValueParser.TheVariants.{Unsigned}
 use Rattle.clap.specs.declared.builder.action.ArgAction.TheVariants.{Set}
 use Rattle.sp_base.specs.declared.limits.TheConstants.{MAX_SIZE, MAX_WORKERS, MIN_SIZE}
-use Rattle.syncp.specs.declared.mode.Mode.{Mode}
-use Rattle.syncp.specs.Modes.{mode_named}
-use Rattle.syncp.specs.declared.command.TheConstants.{MAX_DRAWN_EVENTS, MAX_FINDING, MAX_SEED, MIN_DRAWN_EVENTS}
-use Rattle.syncp.specs.declared.words.Words.{Words}
-use Rattle.syncp.specs.declared.words.WordsFault.{WordsFault}
-use Rattle.syncp.specs.declared.words.WordsFault.TheVariants.{Usage, OutOfMemory}
+use Rattle.command_words.specs.declared.mode.Mode.{Mode}
+use Rattle.command_words.specs.ModeNames.{mode_named}
+use Rattle.command_words.specs.declared.command.TheConstants.{MAX_DRAWN_EVENTS, MAX_FINDING, MAX_SEED, MIN_DRAWN_EVENTS}
+use Rattle.command_words.specs.declared.words.Words.{Words}
+use Rattle.command_words.specs.declared.words.WordsFault.{WordsFault}
+use Rattle.command_words.specs.declared.words.WordsFault.TheVariants.{Usage, OutOfMemory}
 
 -- MODE, which is required and stands in first position
 abbrev pub mode_rule : Rule
@@ -47,22 +47,22 @@ abbrev pub the_command : App
 the_command = with_rule (with_rule (with_rule (with_rule (with_rule (with_rule (new_app (codes "syncp")) mode_rule) size_rule) workers_rule) seed_rule) events_rule) finding_rule
 
 -- the number that a decimal text writes
-abbrev pub number_in : Text → ℕ
-number_in text = digits_value 10 (without_leading_plus text)
+abbrev pub written_number : Text → ℕ
+written_number text = digits_value 10 (without_leading_plus text)
 
 -- the number of an option, from its first value
-abbrev pub number_of : Text → List Row → ℕ
-number_of name matches = option_map_or number_in (first_of name matches) 0
+abbrev pub option_value : Text → List Row → ℕ
+option_value name matches = option_map_or written_number (first_of name matches) 0
 
 -- what the matches of the command mean in a mode
 abbrev pub reading_in : List Row → Mode → Words
 reading_in matches mode = record {
   mode = mode;
-  size = number_of (codes "size") matches;
-  workers = number_of (codes "workers") matches;
-  seed = number_of (codes "seed") matches;
-  events = number_of (codes "events") matches;
-  finding = number_of (codes "finding") matches;
+  size = option_value (codes "size") matches;
+  workers = option_value (codes "workers") matches;
+  seed = option_value (codes "seed") matches;
+  events = option_value (codes "events") matches;
+  finding = option_value (codes "finding") matches;
 }
 
 -- what the matches of the command mean, where MODE names a mode
@@ -74,7 +74,7 @@ unfoldable pub reading_of : List Text → Option Words
 reading_of words = if is_empty (fault_of the_command words) then reading_by (matches_of the_command words) else None
 
 -- the numbers of a reading are in their ranges
-pub record IsInRange (reading : Words) : Type 0 where
+pub record KeepsRanges (reading : Words) : Type 0 where
   pub least_size : MIN_SIZE ≤ reading.size
   pub greatest_size : reading.size ≤ MAX_SIZE
   pub least_workers : 1 ≤ reading.workers
@@ -86,7 +86,7 @@ pub record IsInRange (reading : Words) : Type 0 where
   pub greatest_finding : reading.finding ≤ MAX_FINDING
 
 -- the answer is the reading, and a refusal says that there is none; want of memory says nothing
-abbrev pub Reads : Option Words → Result Words WordsFault → Type 0
-Reads meaning (Ok reading) = meaning ≡ Some reading
-Reads meaning (Err (Usage text)) = meaning ≡ None
-Reads meaning (Err OutOfMemory) = Unit {0}
+abbrev pub AnswersReading : Option Words → Result Words WordsFault → Type 0
+AnswersReading meaning (Ok reading) = meaning ≡ Some reading
+AnswersReading meaning (Err (Usage text)) = meaning ≡ None
+AnswersReading meaning (Err OutOfMemory) = Unit {0}

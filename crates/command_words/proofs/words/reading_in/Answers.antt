@@ -1,6 +1,6 @@
 use Rattle.std.proofs.Common.{arith}
-use Rattle.syncp.proofs.Readings.{number_within}
-use Rattle.syncp.proofs.words.reading_in.Goals as goal
+use Rattle.command_words.proofs.Readings.{number_within}
+use Rattle.command_words.proofs.words.reading_in.Goals as goal
 
 pub overflow_cast-result : goal.overflow_cast-result
 overflow_cast-result c = let size = number_within _ _ _ _ c.requires.size c.number.result c.number.ensures in omega arith

@@ -1,6 +1,6 @@
 use Rattle.std.proofs.Common.{◌∙◌, sym}
-use Rattle.syncp.proofs.Readings.{number_is}
-use Rattle.syncp.proofs.words.number.Goals as goal
+use Rattle.command_words.proofs.Readings.{number_is}
+use Rattle.command_words.proofs.words.number.Goals as goal
 
 pub returns : goal.returns
 returns c =

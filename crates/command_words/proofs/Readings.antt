@@ -10,20 +10,20 @@ use Rattle.clap.specs.declared.parser.matches.Found.{Found}
 use Rattle.clap.specs.Words.{HasKind, Kinds, fault_of, first_value, found_of, kind_of, matches_of}
 use Rattle.clap.specs.declared.error.Error.{Error}
 use Rattle.clap.specs.declared.error.kind.ErrorKind.TheVariants as kind
-use Rattle.syncp.specs.Parsed.{AreMatches, IsNumber, Parses}
-use Rattle.syncp.specs.Words.{Reads, number_in, number_of, reading_by, reading_in, reading_of, the_command}
-use Rattle.syncp.specs.Modes.{mode_named}
-use Rattle.syncp.specs.declared.mode.Mode.{Mode}
-use Rattle.syncp.specs.declared.words.WordsFault.{WordsFault}
-use Rattle.syncp.specs.declared.words.WordsFault.TheVariants.{Usage, OutOfMemory}
+use Rattle.command_words.specs.Parsed.{AreMatches, IsNumber, Parses}
+use Rattle.command_words.specs.Words.{AnswersReading, written_number, option_value, reading_by, reading_in, reading_of, the_command}
+use Rattle.command_words.specs.ModeNames.{mode_named}
+use Rattle.command_words.specs.declared.mode.Mode.{Mode}
+use Rattle.command_words.specs.declared.words.WordsFault.{WordsFault}
+use Rattle.command_words.specs.declared.words.WordsFault.TheVariants.{Usage, OutOfMemory}
 
 -- the number of an option is that of its text
-pub number_is : (found : Found) (name : Text) (least most : ℕ) (n : IsNumber found name least most) → number_of name (rows_of found) ≡ number_in n.text
-number_is found name least most n = ap (λ (o : Option Text). option_map_or number_in o 0) (sym (first_value-rows found name) ∙ n.first)
+pub number_is : (found : Found) (name : Text) (least most : ℕ) (n : IsNumber found name least most) → option_value name (rows_of found) ≡ written_number n.text
+number_is found name least most n = ap (λ (o : Option Text). option_map_or written_number o 0) (sym (first_value-rows found name) ∙ n.first)
 
 -- and lies in its range
 pub number_within : (found : Found) (name : Text) (least most : ℕ) → IsNumber found name least most
-    → (r : ℕ) → r ≡ number_of name (rows_of found) → (least ≤ r) × (r ≤ most)
+    → (r : ℕ) → r ≡ option_value name (rows_of found) → (least ≤ r) × (r ≤ most)
 number_within found name least most n r is =
     subst (λ (x : ℕ). (least ≤ x) × (x ≤ most)) (sym (is ∙ number_is found name least most n)) (n.range.2, n.range.3)
 
@@ -55,7 +55,7 @@ some_fault [] some = absurd (some refl)
 some_fault (k ∷ rest) some = ne_eqb (length (k ∷ rest)) 0 (λ e. omega arith)
 
 -- where the parse refuses the words, they have no reading
-pub no_meaning : (words : List Text) (r : WordsFault) → Parses words (Err r) → Reads (reading_of words) (Err r)
+pub no_meaning : (words : List Text) (r : WordsFault) → Parses words (Err r) → AnswersReading (reading_of words) (Err r)
 unfolding reading_of
 no_meaning words OutOfMemory refused = tt
 no_meaning words (Usage text) refused =

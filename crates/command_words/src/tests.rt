@@ -1,6 +1,5 @@
 // What the words of the command line mean.
-use crate::mode::Mode;
-use crate::words::{Words, WordsFault, read_words};
+use crate::{Mode, Words, WordsFault, read_words};
 use std::alloc::{AllocError, Global};
 use std::test::Fail;
 

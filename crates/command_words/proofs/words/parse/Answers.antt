@@ -2,10 +2,10 @@ use Rattle.std.proofs.Common.{◌≡◌, ◌∙◌, sym, ap, subst, map, string_
 use Rattle.clap.specs.Simple.{app_of}
 use Rattle.clap.specs.Words.{fault_of, is_simple, is_simple_and_free, matches_of}
 use Rattle.clap.specs.Words.{HasKind}
-use Rattle.syncp.specs.Words.{the_command}
-use Rattle.syncp.proofs.Readings.{fault_says}
-use Rattle.syncp.proofs.Options.{numbers}
-use Rattle.syncp.proofs.words.parse.Goals as goal
+use Rattle.command_words.specs.Words.{the_command}
+use Rattle.command_words.proofs.Readings.{fault_says}
+use Rattle.command_words.proofs.Options.{numbers}
+use Rattle.command_words.proofs.words.parse.Goals as goal
 
 pub returns-in-Ok : goal.returns-in-Ok
 returns-in-Ok c =

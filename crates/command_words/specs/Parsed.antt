@@ -4,10 +4,10 @@ use Rattle.clap.specs.Words.{IsUnsignedIn, Text, fault_of, first_value, found_of
 use Rattle.clap.specs.declared.parser.matches.ArgMatches.{ArgMatches}
 use Rattle.clap.specs.declared.parser.matches.Found.{Found}
 use Rattle.sp_base.specs.declared.limits.TheConstants.{MAX_SIZE, MAX_WORKERS, MIN_SIZE}
-use Rattle.syncp.specs.Words.{the_command}
-use Rattle.syncp.specs.declared.command.TheConstants.{MAX_DRAWN_EVENTS, MAX_FINDING, MAX_SEED, MIN_DRAWN_EVENTS}
-use Rattle.syncp.specs.declared.words.WordsFault.{WordsFault}
-use Rattle.syncp.specs.declared.words.WordsFault.TheVariants.{Usage, OutOfMemory}
+use Rattle.command_words.specs.Words.{the_command}
+use Rattle.command_words.specs.declared.command.TheConstants.{MAX_DRAWN_EVENTS, MAX_FINDING, MAX_SEED, MIN_DRAWN_EVENTS}
+use Rattle.command_words.specs.declared.words.WordsFault.{WordsFault}
+use Rattle.command_words.specs.declared.words.WordsFault.TheVariants.{Usage, OutOfMemory}
 
 -- the first value of an option, which the getters read as it stands, writes a number in a range
 pub record IsNumber (found : Found) (name : Text) (least most : ℕ) : Type 0 where

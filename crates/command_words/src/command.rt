@@ -1,7 +1,7 @@
 // The command of the program, with its options and their ranges.
 ghost use Rattle.std.specs.Prelude.{◌≡◌, IfOk, false};
 ghost use Rattle.clap.specs.Words.{app_of, rule_of, with_rule};
-ghost use Rattle.syncp.specs.Words.{events_rule, mode_rule, number_rule, seed_rule, size_rule, the_command, workers_rule};
+ghost use Rattle.command_words.specs.Words.{events_rule, mode_rule, number_rule, seed_rule, size_rule, the_command, workers_rule};
 
 use clap::builder::ValueParser;
 use clap::{Arg, ArgAction, Command};
@@ -19,9 +19,6 @@ pub const MAX_DRAWN_EVENTS: u32 = 65_536;
 
 /// The greatest number of a finding.
 pub const MAX_FINDING: u32 = 69_632;
-
-/// The names of the modes, as texts for the user list them.
-pub const MODE_NAMES: &str = "[possible values: predict, record, witness, replay, run, bench]";
 
 // An option that takes a number from `least` to `most`.
 fn number_option<'a>(
@@ -43,15 +40,15 @@ fn number_option<'a>(
         .help(help)
 }
 
-// MODE, the first positional argument.
-fn mode_argument<'a>(alloc: Global) -> Arg<'a>
+// MODE, the first positional argument, whose help is the list of the modes.
+fn mode_argument<'a>(alloc: Global, modes: &'a str) -> Arg<'a>
     ensures rule { rule_of result ≡ mode_rule }
     ensures local { result.global ≡ false }
 {
     Arg::new(alloc, "mode")
         .required(true)
         .action(ArgAction::Set)
-        .help(MODE_NAMES)
+        .help(modes)
 }
 
 // The options of the search for deadlocks.
@@ -77,13 +74,13 @@ fn with_drawing_options<'a>(alloc: Global, command: Command<'a>) -> Result<Comma
     command.arg(seed)?.arg(events)
 }
 
-/// The command of the program, as its users know it. Its name in texts is `syncp`.
-pub fn command<'a>(alloc: Global) -> Result<Command<'a>, AllocError>
+/// The command of the program, as its users know it. Its name in texts is `syncp`, and the text `modes` lists the modes.
+pub fn command<'a>(alloc: Global, modes: &'a str) -> Result<Command<'a>, AllocError>
     ensures { IfOk result (λ c. app_of c ≡ the_command) }
 {
     let command = Command::new(alloc, "syncp")
         .about("Predicts data races and deadlocks from a trace of lock events")
-        .arg(mode_argument(alloc))?;
+        .arg(mode_argument(alloc, modes))?;
     let command = with_search_options(alloc, command)?;
     let command = with_drawing_options(alloc, command)?;
     let most = MAX_FINDING as u64;

@@ -30,9 +30,9 @@ use Rattle.clap.specs.declared.parser.matches.ArgMatches.{ArgMatches}
 use Rattle.clap.specs.declared.parser.matches.Found.{Found}
 use Rattle.clap.specs.declared.parser.matches.MatchedArg.{MatchedArg}
 use Rattle.sp_base.specs.declared.limits.TheConstants.{MAX_SIZE, MAX_WORKERS, MIN_SIZE}
-use Rattle.syncp.specs.Parsed.{HasNumbers, IsNumber}
-use Rattle.syncp.specs.Words.{number_rule, the_command}
-use Rattle.syncp.specs.declared.command.TheConstants.{MAX_DRAWN_EVENTS, MAX_FINDING, MAX_SEED, MIN_DRAWN_EVENTS}
+use Rattle.command_words.specs.Parsed.{HasNumbers, IsNumber}
+use Rattle.command_words.specs.Words.{number_rule, the_command}
+use Rattle.command_words.specs.declared.command.TheConstants.{MAX_DRAWN_EVENTS, MAX_FINDING, MAX_SEED, MIN_DRAWN_EVENTS}
 
 -- the rule of an argument of the command
 rule_at : (old : Command) → app_of old ≡ the_command → (k : ℕ) (d : Arg) → k < length (args_of old)

@@ -1,0 +1,3 @@
+pub mod ModeNames
+pub mod Words
+pub mod Parsed
