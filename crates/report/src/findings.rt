@@ -1,6 +1,6 @@
 //! The report of a trace.
 
-ghost use Rattle.std.specs.Prelude.{◌≡◌, IfOk, length, string_bytes};
+ghost use Rattle.std.specs.Prelude.{◌≡◌, IfOk, string_bytes};
 ghost use Rattle.sp_base.specs.Causes.{HasWriteCause};
 ghost use Rattle.sp_base.specs.Moves.{Gained, IsWritten};
 ghost use Rattle.report.specs.Reports.{AreWithin, finding_lines, report_text};
@@ -8,19 +8,7 @@ ghost use Rattle.report.specs.Reports.{AreWithin, finding_lines, report_text};
 use crate::lines::{last_line, line_of_finding};
 use sp_base::{OutOfMemory, Sink, WriteFault, write_all};
 use std::alloc::Global;
-use trace_laws::{Finding, Findings, Trace};
-
-/// How many races there are: they come first.
-pub fn count_of_races(findings: &Findings) -> u32
-    ensures { result ≡ length findings.now.races }
-{
-    for number in 0..findings.len() {
-        if let Finding::Deadlock(_, _) = findings.get(number) {
-            return number;
-        }
-    }
-    findings.len()
-}
+use trace_laws::{Findings, Trace};
 
 // The lines of the findings.
 #[tactic(auto, using(crate::proofs::MoreLines::finding_within, crate::proofs::MoreLines::finding_more))]
@@ -44,7 +32,7 @@ fn report_of(alloc: Global, trace: &Trace, findings: &Findings) -> Result<String
     requires { AreWithin trace.now.events findings.now }
     ensures { IfOk result (λ text. string_bytes text ≡ report_text trace.now.events findings.now) }
 {
-    let races = count_of_races(findings);
+    let races = findings.races();
     let deadlocks = findings.len() - races;
     let mut text = lines_of_all(alloc, trace, findings)?;
     let last = last_line(alloc, races, deadlocks)?;

@@ -16,7 +16,7 @@ mod tests;
 mod trace;
 
 pub use ends::write_ends;
-pub use findings::{count_of_races, write_report};
+pub use findings::write_report;
 pub use lines::last_line;
 pub use reached::{write_reached, write_reached_count};
 pub use trace::write_trace;

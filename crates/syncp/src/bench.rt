@@ -17,7 +17,7 @@ use crate::report_of::report_of;
 use command_words::{MAX_DRAWN_EVENTS, MAX_SEED, MIN_DRAWN_EVENTS};
 use drawn_trace::draw;
 use predictor::{FindFault, find};
-use report::{count_of_races, last_line};
+use report::last_line;
 use sp_base::{Gate, MAX_SIZE, MAX_WORKERS, MIN_SIZE, OutOfMemory, Sink, SureSink};
 use std::alloc::Global;
 use std::thread::Threads;
@@ -42,7 +42,7 @@ fn trace_of_seed(alloc: Global, seed: u64, events: u32) -> Result<Trace, OutOfMe
 fn count_of_deadlocks(findings: &Findings) -> u32
     ensures { result ≡ length findings.now.deadlocks }
 {
-    findings.len() - count_of_races(findings)
+    findings.len() - findings.races()
 }
 
 // The line of how many events there are.
@@ -92,7 +92,7 @@ fn text_of(
     ensures { IfOk result (λ text. text ≡ bench_text events findings.now (length (report_text trace.now.events findings.now))) }
 {
     let report = report_of(alloc, trace, findings)?;
-    let races = count_of_races(findings);
+    let races = findings.races();
     let deadlocks = count_of_deadlocks(findings);
     let lines = lines_of(alloc, events, races, deadlocks, report.text().len())?;
     sink_with(alloc, lines.as_bytes())
