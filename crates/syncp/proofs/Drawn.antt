@@ -7,7 +7,7 @@ use Rattle.trace_laws.specs.Findings.{Found}
 use Rattle.std_text.specs.Framing.{Progress, start, start_with, no_names}
 use Rattle.std_text.specs.Refusal.{LineFault}
 use Rattle.report.specs.Reports.{report_text}
-use Rattle.predictor.specs.Predictions.{ArePredictions, HasFewPatterns}
+use Rattle.predictor.specs.Predictions.{ArePredictions}
 use Rattle.pattern_walk.specs.Listed.{HasMorePatterns}
 use Rattle.drawn_trace.specs.Drawn.{drawn_text, IsReadable}
 use Rattle.syncp.specs.declared.outcome.Fault.{Fault}
@@ -65,10 +65,10 @@ module _ (seed events : ℕ) (names : NameLists) (text : List ℕ) (none : names
       cc
 
 -- the lines for the trace of a seed
-pub benched : (size seed events : ℕ) (h : History) (all : Found) (text : List ℕ) → IsDrawnTrace seed events h → ArePredictions h size all → HasFewPatterns h.events size → text ≡ bench_text events all (length (report_text h.events all)) → IsBench size seed events text
+pub benched : (size seed events : ℕ) (h : History) (all : Found) (text : List ℕ) → IsDrawnTrace seed events h → ArePredictions h size all → text ≡ bench_text events all (length (report_text h.events all)) → IsBench size seed events text
 unfolding IsBench
-benched size seed events h all text is are few written =
-    (is.0, all, is.1, subst (λ g. ArePredictions g size all) is.2 are, subst (λ (g : History). HasFewPatterns g.events size) is.2 few, subst (λ g. text ≡ bench_text events all (length (report_text g.events all))) is.2 written)
+benched size seed events h all text is are written =
+    (is.0, all, is.1, subst (λ g. ArePredictions g size all) is.2 are, subst (λ g. text ≡ bench_text events all (length (report_text g.events all))) is.2 written)
 
 -- the trace of a seed has too many patterns
 pub many_drawn : (size seed events : ℕ) (h : History) → IsDrawnTrace seed events h → HasMorePatterns h.events size → HasManyDrawn size seed events

@@ -102,9 +102,8 @@ module _ (size : ℕ) (input scripts trace : List ℕ) (line : ℕ) (few : lengt
           run = run_said;
           all = replays.0;
           predicted = predicted replays.0 replays.1;
-          few = replays.2;
-          replays = subst (λ h. WritesReplays script h replays.0 text) is_run replays.3;
-          found_is = replays.4;
+          replays = subst (λ h. WritesReplays script h replays.0 text) is_run replays.2;
+          found_is = replays.3;
         }
 
         -- too many patterns, or want of memory

@@ -4,7 +4,7 @@ use Rattle.trace_laws.specs.Names.{NameLists}
 use Rattle.trace_laws.specs.Traces.{History}
 use Rattle.trace_laws.specs.Findings.{Found}
 use Rattle.pattern_walk.specs.Listed.{HasMorePatterns}
-use Rattle.predictor.specs.Predictions.{ArePredictions, HasFewPatterns}
+use Rattle.predictor.specs.Predictions.{ArePredictions}
 use Rattle.syncp.specs.declared.outcome.Fault.{Fault}
 use Rattle.syncp.specs.declared.outcome.Fault.TheVariants as fault
 use Rattle.syncp.specs.Modes.{IsPastPatterns}
@@ -12,8 +12,8 @@ use Rattle.syncp.specs.Outcome.{FailsToRead, FailsToReadTrace, IsPredictedFrom, 
 use Rattle.syncp.specs.Tasks.{Predict, Witness}
 
 -- the trace, its names and what is predicted from it
-pub predicted : (size : ℕ) (Ended : Type 0) (trace : History) (names : NameLists) (found : Found) (input : List ℕ) → IsReadFrom Ended (Ok (trace, names)) input → ArePredictions trace size found → HasFewPatterns trace.events size → IsPredictedFrom size input ((trace, names), found)
-predicted size Ended trace names found input is are few = (is.0, is.1, is.2, is.3, are, few)
+pub predicted : (size : ℕ) (Ended : Type 0) (trace : History) (names : NameLists) (found : Found) (input : List ℕ) → IsReadFrom Ended (Ok (trace, names)) input → ArePredictions trace size found → IsPredictedFrom size input ((trace, names), found)
+predicted size Ended trace names found input is are = (is.0, is.1, is.2, is.3, are)
 
 -- a fault while a trace was read
 pub not_read : (size : ℕ) (Ended : Type 0) (f : Fault) (input : List ℕ) → FailsToReadTrace Ended f input → FailsToRead (Predict size) Ended f input

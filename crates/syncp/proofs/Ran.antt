@@ -253,11 +253,11 @@ witness_not_refused (fault.Script f) size number new all input c std known = kno
 witness_not_refused (fault.NotAStep place) size number new all input c std known = known
 witness_not_refused fault.TooManyPatterns size number new all input c std known = few_patterns new all input size std.0 c std.1 std.2 known
 witness_not_refused fault.NoFinding size number new all input c std known =
-    let same : all ≡ input = taken_all new all input c known.4 in
+    let same : all ≡ input = taken_all new all input c known.3 in
     let there = known.1 in
     let here = std.1 in
     let one : std.0 ≡ known.0 = (let again : (after start input >>= closed) ≡ Ok std.0 = subst (λ text. IsStd text std.0) same here in cc) in
-    let lacks : LacksFinding (history_of std.0) size number = subst (λ p. LacksFinding (history_of p) size number) (sym one) known.3 in
+    let lacks : LacksFinding (history_of std.0) size number = subst (λ p. LacksFinding (history_of p) size number) (sym one) known.2 in
     let counts = same_count (history_of std.0) size std.3.0 lacks.0 std.3.1 lacks.1 in
     omega (arith, counts, std.3.2, lacks.2)
 witness_not_refused fault.Read size number new all input c std known = known

@@ -38,4 +38,4 @@ predicted_within h found are = record {
 -- its text is the output for the input that says the trace
 pub output : (size : ℕ) (input : List ℕ) (r : (History × NameLists) × Found) (text : List ℕ) (count : ℕ) → IsPredictedFrom size input r → text ≡ report_text r.0.0.events r.1 → count ≡ count_of_findings r.1 → IsOutput size input text (nat_lt 0 count)
 unfolding IsReport
-output size input r text count is written counted = (is.0, is.1, subst (λ (h : History). IsReport h size text (nat_lt 0 count)) is.2 (r.1, is.4, is.5, written, ap (nat_lt 0) counted))
+output size input r text count is written counted = (is.0, is.1, subst (λ (h : History). IsReport h size text (nat_lt 0 count)) is.2 (r.1, is.4, written, ap (nat_lt 0) counted))

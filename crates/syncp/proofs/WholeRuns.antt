@@ -6,7 +6,7 @@ use Rattle.trace_laws.specs.Findings.{Found}
 use Rattle.script_machine.specs.Held.{meaning}
 use Rattle.script_machine.specs.Machine.{Script, IsComplete}
 use Rattle.script_machine.specs.Recorded.{Recorded, IsRecording}
-use Rattle.predictor.specs.Predictions.{ArePredictions, HasFewPatterns, count_of_findings}
+use Rattle.predictor.specs.Predictions.{ArePredictions, count_of_findings}
 use Rattle.syncp.specs.Replayed.{WritesReplays}
 use Rattle.std_text.specs.Writing.{trace_text}
 use Rattle.pattern_walk.specs.Listed.{HasMorePatterns}
@@ -26,9 +26,9 @@ five_behind a b c d e ab abc abcd all second third fourth fifth =
 
 -- a recording after which no thread can step, with what is found in it and the lines of the replays, is written as a run
 pub run_written : (size : ℕ) (script : Script) (r : Recorded) (all : Found) (replays text : List ℕ) (count : ℕ) → r.machine.script ≡ script → IsRecording r → IsComplete script (meaning r.machine)
-    → ArePredictions r.trace size all → HasFewPatterns r.trace.events size → WritesReplays script r.trace all replays → text ≡ run_text script r.trace.events (meaning r.machine) all replays → count ≡ count_of_findings all
+    → ArePredictions r.trace size all → WritesReplays script r.trace all replays → text ≡ run_text script r.trace.events (meaning r.machine) all replays → count ≡ count_of_findings all
     → WritesRun size script text (nat_lt 0 count)
-run_written size script r all replays text count same recording complete are few replayed written counted =
+run_written size script r all replays text count same recording complete are replayed written counted =
     let is_run = trace_is_run script r same recording in
     record {
       events = r.trace.events;
@@ -36,7 +36,6 @@ run_written size script r all replays text count same recording complete are few
       run = run_is_complete script r same recording complete;
       all = all;
       predicted = subst (λ h. ArePredictions h size all) is_run are;
-      few = few;
       replays = replays;
       replayed = subst (λ h. WritesReplays script h all replays) is_run replayed;
       written = written;

@@ -34,9 +34,9 @@ bench_lines events races deadlocks bytes = events_line events ++ closing_line ra
 abbrev pub bench_text : ℕ → Found → ℕ → List ℕ
 bench_text events all bytes = bench_lines events (length all.races) (length all.deadlocks) bytes
 
--- the text for the trace of a seed, which has not too many patterns
+-- the text for the trace of a seed
 unfoldable pub IsBench : ℕ → ℕ → ℕ → List ℕ → Type 0
-IsBench size seed events text = (p : Progress) × (all : Found) × IsDrawn seed events p × ArePredictions (history_of p) size all × HasFewPatterns p.reading.events size
+IsBench size seed events text = (p : Progress) × (all : Found) × IsDrawn seed events p × ArePredictions (history_of p) size all
     × (text ≡ bench_text events all (length (report_text p.reading.events all)))
 
 -- the trace of a seed has not too many patterns

@@ -59,9 +59,9 @@ HasNoFaultIn (Replay size) input = length input ≤ MAX_INPUT
 HasNoFaultIn (Run size) input = length input ≤ MAX_INPUT
 HasNoFaultIn (Bench size seed events) input = ⊥
 
--- the whole input says a trace that has not too many patterns, and fewer findings
+-- the whole input says a trace that has fewer findings
 abbrev pub IsPastFindings : Type 0 → List ℕ → ℕ → ℕ → Type 0
-IsPastFindings Ended input size number = (p : Progress) × IsStd input p × HasFewPatterns p.reading.events size × LacksFinding (history_of p) size number × Ended
+IsPastFindings Ended input size number = (p : Progress) × IsStd input p × LacksFinding (history_of p) size number × Ended
 
 -- the whole input says a trace that has too many patterns
 abbrev pub IsPastPatterns : Type 0 → List ℕ → ℕ → Type 0

@@ -5,7 +5,7 @@ use Rattle.sp_base.specs.declared.limits.TheConstants.{MAX_INPUT}
 use Rattle.trace_laws.specs.Traces.{History}
 use Rattle.trace_laws.specs.Names.{NameLists}
 use Rattle.trace_laws.specs.Findings.{Found}
-use Rattle.predictor.specs.Predictions.{ArePredictions, HasFewPatterns}
+use Rattle.predictor.specs.Predictions.{ArePredictions}
 use Rattle.std_text.specs.Framing.{Progress}
 use Rattle.std_text.specs.Refusal.{Refusal}
 use Rattle.std_text.specs.Told.{Told}
@@ -59,9 +59,9 @@ abbrev pub IsReadFrom : Type 0 → Result (History × NameLists) Fault → List 
 IsReadFrom Ended (Ok read) input = (p : Progress) × IsStd input p × (read.0 ≡ history_of p) × (read.1 ≡ p.reading.names)
 IsReadFrom Ended (Err fault) input = FailsToReadTrace Ended fault input
 
--- a trace that the whole input says with its names, which has not too many patterns, and what is predicted from it
+-- a trace that the whole input says with its names, and what is predicted from it
 abbrev pub IsPredictedFrom : ℕ → List ℕ → (History × NameLists) × Found → Type 0
-IsPredictedFrom size input r = (p : Progress) × IsStd input p × (r.0.0 ≡ history_of p) × (r.0.1 ≡ p.reading.names) × ArePredictions r.0.0 size r.1 × HasFewPatterns r.0.0.events size
+IsPredictedFrom size input r = (p : Progress) × IsStd input p × (r.0.0 ≡ history_of p) × (r.0.1 ≡ p.reading.names) × ArePredictions r.0.0 size r.1
 
 -- the output for an input with whether it has a finding, or the fault because of which nothing is written
 abbrev pub Makes : Task → Type 0 → Result (List ℕ × Bool) Fault → List ℕ → Type 0

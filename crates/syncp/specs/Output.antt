@@ -6,7 +6,7 @@ use Rattle.trace_laws.specs.Traces.{History}
 use Rattle.std_text.specs.Refusal.{Refusal, ◌>>=◌}
 use Rattle.std_text.specs.Framing.{Progress, start, after, closed}
 use Rattle.report.specs.Reports.{report_text}
-use Rattle.predictor.specs.Predictions.{ArePredictions, HasFewPatterns, count_of_findings}
+use Rattle.predictor.specs.Predictions.{ArePredictions, count_of_findings}
 
 -- no byte more than the limit and one was taken
 abbrev pub IsWithinLimit : List ℕ → Type 0
@@ -32,9 +32,9 @@ IsKnownFault Ended text f = (after start text ≡ Err f) ⊎ (Ended × (whole_re
 abbrev pub HasNoFault : List ℕ → Type 0
 HasNoFault text = (p : Progress) × (after start text ≡ Ok p)
 
--- the report of a trace that has not too many patterns of at most that size, and whether it has a finding
+-- the report of a trace with patterns of at most that size, and whether it has a finding
 unfoldable pub IsReport : History → ℕ → List ℕ → Bool → Type 0
-IsReport h size text found = (all : Found) × ArePredictions h size all × HasFewPatterns h.events size × (text ≡ report_text h.events all) × (found ≡ nat_lt 0 (count_of_findings all))
+IsReport h size text found = (all : Found) × ArePredictions h size all × (text ≡ report_text h.events all) × (found ≡ nat_lt 0 (count_of_findings all))
 
 -- the output for an input
 abbrev pub IsOutput : ℕ → List ℕ → List ℕ → Bool → Type 0

@@ -18,7 +18,7 @@ use Rattle.replayer.specs.Replayed.{Replayed, IsRaceReplay, IsDeadlockReplay, Is
 use Rattle.report.specs.ReachedLines.{reached_line, closing_reached}
 use Rattle.syncp.specs.Inputs.{scripts_in, trace_in, trace_line}
 use Rattle.syncp.specs.Output.{whole_reading}
-use Rattle.predictor.specs.Predictions.{ArePredictions, HasFewPatterns, count_of_findings}
+use Rattle.predictor.specs.Predictions.{ArePredictions, count_of_findings}
 
 -- what the trace of an input says behind its script, whose names have their numbers already
 abbrev pub reading_behind : Script → List ℕ → Result Progress Refusal
@@ -87,12 +87,10 @@ pub record WritesReplays (script : Script) (run : History) (found : Found) (text
   pub of_deadlocks : AllZip (IsDeadlockReplay script run) found.deadlocks deadlocks
   pub written : text ≡ replays_text script.names (races ++ deadlocks)
 
--- the text is that of the replays of all that is found in the trace that the input says, which has not too many patterns, and
--- whether there is any
+-- the text is that of the replays of all that is found in the trace that the input says, and whether there is any
 pub record IsReplay (size : ℕ) (input text : List ℕ) (found : Bool) : Type 0 where
   pub run : SaysRun input
   pub all : Found
   pub predicted : ArePredictions (run_of run.script run.p.reading.events) size all
-  pub few : HasFewPatterns run.run size
   pub replays : WritesReplays run.script (run_of run.script run.run) all text
   pub found_is : found ≡ nat_lt 0 (count_of_findings all)

@@ -17,7 +17,7 @@ use Rattle.syncp.specs.declared.outcome.Fault.TheVariants as fault
 use Rattle.syncp.specs.Faults.{refusal_with, TellsRefusal}
 use Rattle.syncp.specs.Inputs.{scripts_in}
 use Rattle.syncp.specs.Output.{history_of}
-use Rattle.predictor.specs.Predictions.{ArePredictions, HasFewPatterns, count_of_findings}
+use Rattle.predictor.specs.Predictions.{ArePredictions, count_of_findings}
 use Rattle.syncp.specs.Replayed.{SaysNoTrace, SaysNoRun, SaysManyPatterns, WritesReplays}
 
 -- a fault of a script, or want of memory
@@ -40,7 +40,7 @@ Records script events (Err f) = ⊥
 
 -- the text of the replays of all that is found in a run, and whether there is any; or too many patterns, or want of memory
 abbrev pub ReplaysRun : ℕ → Script → History → Result (List ℕ × Bool) Fault → Type 0
-ReplaysRun size script run (Ok r) = (all : Found) × ArePredictions run size all × HasFewPatterns run.events size × WritesReplays script run all r.0 × (r.1 ≡ nat_lt 0 (count_of_findings all))
+ReplaysRun size script run (Ok r) = (all : Found) × ArePredictions run size all × WritesReplays script run all r.0 × (r.1 ≡ nat_lt 0 (count_of_findings all))
 ReplaysRun size script run (Err fault.TooManyPatterns) = HasMorePatterns run.events size
 ReplaysRun size script run (Err fault.OutOfMemory) = Unit {0}
 ReplaysRun size script run (Err f) = ⊥

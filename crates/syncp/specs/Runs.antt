@@ -13,7 +13,7 @@ use Rattle.syncp.specs.declared.outcome.Outcome.{Outcome}
 use Rattle.syncp.specs.declared.outcome.Outcome.TheVariants.{Done, Refused}
 use Rattle.syncp.specs.declared.run_text.RunText.{RunText}
 use Rattle.syncp.specs.declared.run_text.RunText.TheVariants.{Whole, Cut}
-use Rattle.predictor.specs.Predictions.{ArePredictions, HasFewPatterns, count_of_findings}
+use Rattle.predictor.specs.Predictions.{ArePredictions, count_of_findings}
 use Rattle.syncp.specs.Recorded.{IsCompleteRun, IsScriptOf}
 use Rattle.syncp.specs.Replayed.{WritesReplays, run_of}
 
@@ -27,15 +27,14 @@ abbrev pub run_text : Script → List Event → State → Found → List ℕ →
 run_text script events end all replays =
     trace_text script.names events ++ mark_line ++ report_text events all ++ replays ++ ends_text script.names script end
 
--- The text is that of a complete legal run of the script, which has not too many patterns. The report is that of what is found
--- in this very run, the replays are those of what is found in it, and the end lines are those of the state that it leads to.
+-- The text is that of a complete legal run of the script. The report is that of what is found in this very run, the
+-- replays are those of what is found in it, and the end lines are those of the state that it leads to.
 pub record WritesRun (size : ℕ) (script : Script) (text : List ℕ) (found : Bool) : Type 0 where
   pub events : List Event
   pub end : State
   pub run : IsCompleteRun script events end
   pub all : Found
   pub predicted : ArePredictions (run_of script events) size all
-  pub few : HasFewPatterns events size
   pub replays : List ℕ
   pub replayed : WritesReplays script (run_of script events) all replays
   pub written : text ≡ run_text script events end all replays

@@ -11,7 +11,7 @@ use Rattle.replayer.specs.Replays.{along}
 use Rattle.std_text.specs.Framing.{Progress}
 use Rattle.std_text.specs.Writing.{trace_text}
 use Rattle.syncp.specs.Output.{history_of, IsStd}
-use Rattle.predictor.specs.Predictions.{ArePredictions, HasFewPatterns, count_of_findings}
+use Rattle.predictor.specs.Predictions.{ArePredictions, count_of_findings}
 
 -- a finding as the places that it leaves enabled, and its keep
 pub record Target : Type 0 where
@@ -53,9 +53,9 @@ pub record WritesFinding (names : NameLists) (h : History) (found : Found) (numb
   pub witness : IsWitnessOf h target places
   pub written : text ≡ trace_text names (along h.events places)
 
--- the text is that of the witness of a finding of the trace, which has that number, where the trace has not too many patterns
+-- the text is that of the witness of a finding of the trace, which has that number
 abbrev pub WritesWitness : NameLists → History → ℕ → ℕ → List ℕ → Type 0
-WritesWitness names h size number text = (found : Found) × ArePredictions h size found × HasFewPatterns h.events size × WritesFinding names h found number text
+WritesWitness names h size number text = (found : Found) × ArePredictions h size found × WritesFinding names h found number text
 
 -- the text is that of the witness of a finding of the trace that the input says
 abbrev pub IsWitness : ℕ → ℕ → List ℕ → List ℕ → Type 0
