@@ -16,7 +16,7 @@ use Rattle.closed_fronts.specs.Rows.{IsBelowCut}
 use Rattle.closed_fronts.proofs.Mends.{held_below}
 
 -- a place of the trace has an event
-entry_at : (events : List Event) (n : ℕ) → n < length events → (e : Event) × (slice_get events n ≡ Some e)
+pub entry_at : (events : List Event) (n : ℕ) → n < length events → (e : Event) × (slice_get events n ≡ Some e)
 entry_at [] n less = absurd (omega arith)
 entry_at (x ∷ xs) zero less = (x, refl)
 entry_at (x ∷ xs) (suc n) less = entry_at xs n (omega arith)

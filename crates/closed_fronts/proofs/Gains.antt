@@ -15,7 +15,7 @@ use Rattle.closed_fronts.specs.Needs.{IsThreadBefore, IsWriterOfRead}
 use Rattle.closed_fronts.specs.Tables.{IsLatest, IsOwnBefore, IsJoinBefore}
 use Rattle.closed_fronts.proofs.Flags.{held_from_has, has_from_held}
 use Rattle.closed_fronts.proofs.Admissions.{closure_after}
-use Rattle.closed_fronts.specs.Rows.{IsImplied, IsSteady, AreWithin, IsMended, IsReady, IsRow}
+use Rattle.closed_fronts.specs.Rows.{AreZero, IsImplied, IsSteady, AreWithin, IsMended, IsReady, IsRow}
 
 -- of places that are of a thread or fork it, the lesser comes before the greater
 pub tip_order : (events : List Event) → Lawful events → (t n i q : ℕ) → IsThreadBefore events t n i → IsThreadBefore events t n q → i ≤ q → (i ≡ q) ⊎ Before events i q
@@ -49,7 +49,7 @@ before_by events place i (Before.event_join t less a b) = inr (record { thread =
 before_by events place i (Before.fork_join t less a b) = inr (record { thread = t; joins = b; before = record { earlier = less; side = inr a } })
 
 -- and conversely
-own_before : (events : List Event) (place i : ℕ) → IsOwnBefore events place i → Before events i place
+pub own_before : (events : List Event) (place i : ℕ) → IsOwnBefore events place i → Before events i place
 own_before events place i h = go h.before.side
   where
     go : (thread_at events i ≡ Some h.thread) ⊎ (op_at events i ≡ Some (Fork h.thread)) → Before events i place
@@ -57,7 +57,7 @@ own_before events place i h = go h.before.side
     go (inr a) = Before.fork_event h.thread h.before.earlier a h.is_of
 
 -- the same of the thread that it joins
-join_before : (events : List Event) (place i : ℕ) → IsJoinBefore events place i → Before events i place
+pub join_before : (events : List Event) (place i : ℕ) → IsJoinBefore events place i → Before events i place
 join_before events place i h = go h.before.side
   where
     go : (thread_at events i ≡ Some h.thread) ⊎ (op_at events i ≡ Some (Fork h.thread)) → Before events i place
@@ -89,6 +89,18 @@ module _ (events : List Event) (lawful : Lawful events) (threads place : ℕ) (c
       go : (i ≡ q) ⊎ Before events i q → IsHeld events cuts i
       go (inl same) = subst (λ (k : ℕ). IsHeld events cuts k) (sym same) (held q refl)
       go (inr before) = steady.program i q before (held q refl)
+
+-- a steady set that holds these, and the writer of the place, is ready for it
+pub ready_from : (events : List Event) → Lawful events → (threads place : ℕ) (cuts : List ℕ) → IsSteady events threads cuts → (own joined writer : Option ℕ) → IsLatest (IsOwnBefore events place) own → IsLatest (IsJoinBefore events place) joined
+    → ((w : ℕ) → IsWriterOfRead events place w → writer ≡ Some w) → ((q : ℕ) → own ≡ Some q → IsHeld events cuts q) → ((q : ℕ) → joined ≡ Some q → IsHeld events cuts q) → ((q : ℕ) → writer ≡ Some q → IsHeld events cuts q) → IsReady events cuts place
+ready_from events lawful threads place cuts steady own joined writer latest_own latest_joined tells has_own has_joined has_writer = record {
+  before = λ i b. go i (before_by events place i b);
+  writer = λ w is. has_writer w (tells w is);
+}
+  where
+    go : (i : ℕ) → IsOwnBefore events place i ⊎ IsJoinBefore events place i → IsHeld events cuts i
+    go i (inl h) = all_own events lawful threads place cuts steady own latest_own has_own i h
+    go i (inr h) = all_joined events lawful threads place cuts steady joined latest_joined has_joined i h
 
 -- where the latest place of the own and that of the joined thread are admitted, all places before the place are
 pub admits_before : (events : List Event) → Lawful events → (threads place : ℕ) (own joined : Option ℕ) (a b c : List ℕ) → IsLatest (IsOwnBefore events place) own → IsLatest (IsJoinBefore events place) joined → IsSteady events threads c
@@ -129,7 +141,7 @@ module _ (events : List Event) (threads p t : ℕ) (cuts : List ℕ) (own : thre
   there u other = get_or-set_other cuts t u (p + 1) 0 other
 
   -- the old members stay
-  stays : (i : ℕ) → IsHeld events cuts i → IsHeld events (slice_set cuts t (p + 1)) i
+  pub stays : (i : ℕ) → IsHeld events cuts i → IsHeld events (slice_set cuts t (p + 1)) i
   stays i h = go (cases_eq h.thread t)
     where
       go : (h.thread ≡ t) ⊎ (h.thread ≢ t) → IsHeld events (slice_set cuts t (p + 1)) i
@@ -137,11 +149,11 @@ module _ (events : List Event) (threads p t : ℕ) (cuts : List ℕ) (own : thre
       go (inr other) = record { thread = h.thread; is_of = h.is_of; below = let b = h.below in let x = there h.thread other in omega arith }
 
   -- the place is a member
-  comes : IsHeld events (slice_set cuts t (p + 1)) p
+  pub comes : IsHeld events (slice_set cuts t (p + 1)) p
   comes = record { thread = t; is_of = own; below = let x = here in omega arith }
 
   -- and there is no other new one
-  only : (i : ℕ) → IsHeld events (slice_set cuts t (p + 1)) i → IsHeld events cuts i ⊎ (i ≡ p)
+  pub only : (i : ℕ) → IsHeld events (slice_set cuts t (p + 1)) i → IsHeld events cuts i ⊎ (i ≡ p)
   only i h = go (cases_eq h.thread t)
     where
       split : thread_at events i ≡ Some t → i < p + 1 → (i < p) ⊎ ((i ≡ p) ⊎ (p < i)) → IsHeld events cuts i ⊎ (i ≡ p)
@@ -209,7 +221,7 @@ steady_empty events threads cuts size none = record {
 }
 
 -- and closed
-pub mended_empty : (events : List Event) (cuts : List ℕ) → ((t : ℕ) → slice_index cuts t ≡ 0) → IsMended events cuts
+pub mended_empty : (events : List Event) (cuts : List ℕ) → AreZero cuts → IsMended events cuts
 mended_empty events cuts none a b r excludes release first second = absurd (let x = first.below in let z = none first.thread in omega arith)
 
 -- a set that is ready after what the place needs was admitted

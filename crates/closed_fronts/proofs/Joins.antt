@@ -7,7 +7,7 @@ use Rattle.trace_laws.specs.Trace.{thread_at, Before, Reads, IsLastWrite}
 use Rattle.trace_laws.specs.Closed.{ClosedSet, HoldsAll}
 use Rattle.trace_laws.proofs.Places.{three_way}
 use Rattle.closed_fronts.specs.Cuts.{IsHeld, Admits}
-use Rattle.closed_fronts.specs.Rows.{IsJoin, IsSteady, AreWithin, IsRow}
+use Rattle.closed_fronts.specs.Rows.{AreZero, IsJoin, IsSteady, AreWithin, IsMended, IsRow}
 
 -- how much the cuts may still rise
 abbrev pub room : ℕ → List ℕ → ℕ
@@ -139,3 +139,19 @@ within_join a b c m n join first second le t = let each = join.each t in let x =
 -- no cut of the union is below that of the first
 pub join_rises : (a b c : List ℕ) → IsJoin a b c → (t : ℕ) → slice_index a t ≤ slice_index c t
 join_rises a b c join t = let each = join.each t in omega arith
+
+-- a set that is joined to the empty one stays closed under the rule of releases
+pub mended_alone : (events : List Event) (a b c : List ℕ) → IsJoin a b c → AreZero a → IsMended events b → IsMended events c
+mended_alone events a b c join none mended x y r excludes release first second = held_right events a b c join r (mended x y r excludes release (back x first) (back y second))
+  where
+    back : (i : ℕ) → IsHeld events c i → IsHeld events b i
+    back i h = record { thread = h.thread; is_of = h.is_of; below = let each = join.each h.thread in let z = none h.thread in let below = h.below in omega arith }
+
+-- a list of zeros is zero everywhere
+pub zero_all : (cuts : List ℕ) (n : ℕ) → length cuts ≤ n → ((t : ℕ) → t < n → slice_index cuts t ≡ 0) → AreZero cuts
+zero_all cuts n past below t = go (three_way t n)
+  where
+    go : (t < n) ⊎ ((t ≡ n) ⊎ (n < t)) → slice_index cuts t ≡ 0
+    go (inl less) = below t less
+    go (inr (inl same)) = none_past cuts t (omega arith)
+    go (inr (inr more)) = none_past cuts t (omega arith)

@@ -13,7 +13,7 @@ use Rattle.trace_laws.proofs.Places.{three_way, event_of, mapped_from, within_fr
 use Rattle.closed_fronts.proofs.Releasing.{release_one}
 use Rattle.closed_fronts.specs.Cuts.{IsHeld, Admits}
 use Rattle.closed_fronts.specs.Tables.{IsNextRow, AreNextOf, IsOpen, IsOpened, IsOuter, IsAtMost}
-use Rattle.closed_fronts.specs.Rows.{IsSteady, AreWithin, IsMended, IsBrokenAt, IsBroken, AreUnbroken, IsAcquireBelow}
+use Rattle.closed_fronts.specs.Rows.{IsSteady, AreWithin, IsMended, IsBrokenAt, IsTorn, AreUnbroken, IsAcquireBelow}
 use Rattle.closed_fronts.proofs.Told.{latest_at_most}
 use Rattle.closed_fronts.proofs.Joins.{none_past}
 
@@ -82,9 +82,9 @@ unbroken_held events cuts a q cut h release under r broken =
     let is = h.is_cut in
     broken.missing (record { thread = h.thread; is_of = release_own events a r h.thread h.acquires.thread broken.release; below = omega arith })
 
--- nor one that no acquire follows inside it
-pub unbroken_last : (events : List Event) (threads : ℕ) (cuts row : List ℕ) (a cut : ℕ) → IsSteady events threads cuts → IsAcquireBelow events cuts a cut → IsNextRow events threads a row → ((x : ℕ) × (slice_index row x < slice_index cuts x) → ⊥) → (r : ℕ) → IsBrokenAt events cuts a r → ⊥
-unbroken_last events threads cuts row a cut steady h next none r broken = none (x, let f = first in let b = broken.second.below in omega arith)
+-- some acquire follows one that breaks the rule inside the set
+pub broken_followed : (events : List Event) (threads : ℕ) (cuts row : List ℕ) (a cut : ℕ) → IsSteady events threads cuts → IsAcquireBelow events cuts a cut → IsNextRow events threads a row → (r : ℕ) → IsBrokenAt events cuts a r → (x : ℕ) × (slice_index row x < slice_index cuts x)
+broken_followed events threads cuts row a cut steady h next r broken = (x, let f = first in let b = broken.second.below in omega arith)
   where
     x : ℕ
     x = broken.second.thread
@@ -191,9 +191,16 @@ mended_around events threads start cuts named behind before = mended_from events
     go t a r less own broken (inr (inl same)) = behind t a r (omega arith) less own broken
     go t a r less own broken (inr (inr more)) = behind t a r (omega arith) less own broken
 
+-- the release of a torn section is the one that is missing
+pub broken_release : (events : List Event) (cuts : List ℕ) (a q : ℕ) (o : Option ℕ) → IsTorn events cuts a → ((r : ℕ) → (o ≡ Some r) ↔ IsReleaseOf events a r) → o ≡ Some q → IsBrokenAt events cuts a q
+broken_release events cuts a q o torn tells is = subst (λ (r : ℕ). IsBrokenAt events cuts a r) same torn.1
+  where
+    same : torn.0 ≡ q
+    same = let found = (tells torn.0).1 torn.1.release in cc
+
 -- a release that is missing is a place of the trace
-pub broken_place : (events : List Event) (cuts : List ℕ) (r : ℕ) → IsBroken events cuts r → r < length events
-broken_place events cuts r broken = within_from_thread events r broken.1.release.thread broken.1.release.releases.thread
+pub broken_place : (events : List Event) (cuts : List ℕ) (a r : ℕ) → IsBrokenAt events cuts a r → r < length events
+broken_place events cuts a r broken = within_from_thread events r broken.release.thread broken.release.releases.thread
 
 -- in a lawful trace the section of an acquire ends before the lock is acquired again
 pub release_before : (events : List Event) → Lawful events → (a b r : ℕ) → Excludes events a b → IsReleaseOf events a r → r < b
@@ -219,26 +226,24 @@ release_before events lawful a b r excludes release = go (three_way r b)
     go (inr (inr more)) = absurd (denied (omega arith))
 
 -- so a release that is missing stands before the rows' end
-pub broken_within : (events : List Event) → Lawful events → (cuts : List ℕ) (n r : ℕ) → AreWithin cuts (n + 1) → IsBroken events cuts r → r < n
-broken_within events lawful cuts n r within broken =
-    let h = broken.1 in
-    let less = release_before events lawful broken.0 h.later r h.excludes h.release in
-    let below = h.second.below in
-    let bound = within h.second.thread in
+pub broken_within : (events : List Event) → Lawful events → (cuts : List ℕ) (n a r : ℕ) → AreWithin cuts (n + 1) → IsBrokenAt events cuts a r → r < n
+broken_within events lawful cuts n a r within broken =
+    let less = release_before events lawful a broken.later r broken.excludes broken.release in
+    let below = broken.second.below in
+    let bound = within broken.second.thread in
     omega arith
 
 -- and is in each closed set that holds the set
-pub broken_forced : (events : List Event) (cuts : List ℕ) (r : ℕ) → IsBroken events cuts r → (other : ℕ → Bool) → ClosedSet events other → HoldsAll (IsHeld events cuts) other → HoldsAll (λ i. i ≡ r) other
-broken_forced events cuts r broken other closed all i same =
-    let h = broken.1 in
-    subst (λ (k : ℕ). IsTrue (other k)) (sym same) (closed.releases broken.0 h.later r h.excludes h.release (all broken.0 h.first) (all h.later h.second))
+pub broken_forced : (events : List Event) (cuts : List ℕ) (a r : ℕ) → IsBrokenAt events cuts a r → (other : ℕ → Bool) → ClosedSet events other → HoldsAll (IsHeld events cuts) other → HoldsAll (λ i. i ≡ r) other
+broken_forced events cuts a r broken other closed all i same =
+    subst (λ (k : ℕ). IsTrue (other k)) (sym same) (closed.releases a broken.later r broken.excludes broken.release (all a broken.first) (all broken.later broken.second))
 
 -- admitting it lets a cut rise
-pub broken_rises : (events : List Event) (a c : List ℕ) (r : ℕ) → IsBroken events a r → IsHeld events c r → (t : ℕ) × (slice_index a t < slice_index c t)
-broken_rises events a c r broken held = (held.thread, go (three_way r (slice_index a held.thread)))
+pub broken_rises : (events : List Event) (old new : List ℕ) (a r : ℕ) → IsBrokenAt events old a r → IsHeld events new r → (t : ℕ) × (slice_index old t < slice_index new t)
+broken_rises events old new a r broken held = (held.thread, go (three_way r (slice_index old held.thread)))
   where
-    go : (r < slice_index a held.thread) ⊎ ((r ≡ slice_index a held.thread) ⊎ (slice_index a held.thread < r)) → slice_index a held.thread < slice_index c held.thread
-    go (inl less) = absurd (broken.1.missing (record { thread = held.thread; is_of = held.is_of; below = less }))
+    go : (r < slice_index old held.thread) ⊎ ((r ≡ slice_index old held.thread) ⊎ (slice_index old held.thread < r)) → slice_index old held.thread < slice_index new held.thread
+    go (inl less) = absurd (broken.missing (record { thread = held.thread; is_of = held.is_of; below = less }))
     go (inr (inl same)) = let b = held.below in omega arith
     go (inr (inr more)) = let b = held.below in omega arith
 

@@ -21,6 +21,10 @@ pub record IsSteady (events : List Event) (threads : ℕ) (cuts : List ℕ) : Ty
   pub program : (i j : ℕ) → Before events i j → IsHeld events cuts j → IsHeld events cuts i
   pub writers : (r x w : ℕ) → Reads events r x → IsLastWrite events ◌<◌ r x w → IsHeld events cuts r → IsHeld events cuts w
 
+-- each cut is zero: the set has no place
+abbrev pub AreZero : List ℕ → Type 0
+AreZero cuts = (t : ℕ) → slice_index cuts t ≡ 0
+
 -- no cut is beyond the bound
 abbrev pub AreWithin : List ℕ → ℕ → Type 0
 AreWithin cuts bound = (t : ℕ) → slice_index cuts t ≤ bound
@@ -38,9 +42,9 @@ pub record IsBrokenAt (events : List Event) (cuts : List ℕ) (a r : ℕ) : Type
   pub second : IsHeld events cuts later
   pub missing : IsHeld events cuts r → ⊥
 
--- the release r is missing in the set
-abbrev pub IsBroken : List Event → List ℕ → ℕ → Type 0
-IsBroken events cuts r = (a : ℕ) × IsBrokenAt events cuts a r
+-- the section of the acquire a is torn: some release is missing after it
+abbrev pub IsTorn : List Event → List ℕ → ℕ → Type 0
+IsTorn events cuts a = (r : ℕ) × IsBrokenAt events cuts a r
 
 -- no acquire of a thread from one number on and below another breaks the rule
 abbrev pub AreUnbroken : List Event → List ℕ → ℕ → ℕ → Type 0

@@ -1,19 +1,18 @@
 //! The closures of the places of a trace.
 
-ghost use Rattle.std.specs.Prelude.{ℕ, ◌≡◌, ◌<◌, ◌≤◌, ◌+◌, ◌⊎◌, length, IfOk, IfSome, IsTrue, Bool, false, Some, slice_get, slice_index};
+ghost use Rattle.std.specs.Prelude.{ℕ, ◌≡◌, ◌<◌, ◌≤◌, ◌+◌, ◌↔◌, length, IfOk, IfSome, IfNone, IsTrue, false, Some, slice_get, slice_index};
 ghost use Rattle.trace_laws.specs.Trace.{thread_at, Before};
 ghost use Rattle.trace_laws.specs.Traces.{IsTrace};
-ghost use Rattle.trace_laws.specs.Closed.{IsClosure};
 ghost use Rattle.trace_laws.specs.Findings.{HasCount};
-ghost use Rattle.closed_fronts.specs.Members.{has};
-ghost use Rattle.closed_fronts.specs.Cuts.{IsHeld, flags_of};
-ghost use Rattle.closed_fronts.specs.Tables.{IsAcquire, IsOuter, IsOpened, IsNextRow};
-ghost use Rattle.closed_fronts.specs.Rows.{IsSteady, IsMended, IsRow, AreRows, IsBelowCut, IsLocalBehind, IsImplied};
+ghost use Rattle.closed_fronts.specs.Cuts.{IsHeld, Admits};
+ghost use Rattle.closed_fronts.specs.Tables.{IsAcquire, IsLatest, IsOwnBefore, IsJoinBefore, IsOuter, IsOpened, IsNextRow};
+ghost use Rattle.closed_fronts.specs.Rows.{IsSteady, IsMended, IsTorn, IsRow, AreRows, IsBelowCut, IsLocalBehind, IsImplied};
 ghost use Rattle.closed_fronts.specs.Needs.{IsWriterOfRead};
 
-use crate::mending::{admit_before, admit_itself, admit_writer, mend};
+use crate::mending::{admit_before, admit_itself, admit_row, admit_writer, mend};
 use crate::places::Places;
 use crate::ties::Ties;
+use crate::torn::torn;
 use sp_base::OutOfMemory;
 use std::alloc::{AllocError, Global};
 use std::marker::Model;
@@ -49,7 +48,7 @@ fn grow_row(ties: &Ties, rows: &[Vec<u32>], cuts: &mut [u32], place: u32)
     requires empty { (t : ℕ) → slice_index cuts.old t ≡ 0 }
     ensures { IsRow ties.now.events ties.now.threads place cuts.new }
 {
-    admit_before(ties, rows, cuts, place);
+    let _ = admit_before(ties, rows, cuts, place);
     admit_writer(ties, rows, cuts, place);
     admit_itself(ties, cuts, place);
     mend(ties, rows, cuts);
@@ -251,6 +250,30 @@ impl<'a> Fronts<'a> {
         self.ties.next(acquire)
     }
 
+    /// The latest place before the place that is of its thread or forks that.
+    pub fn own(&self, place: u32) -> Option<u32>
+        requires { place < length self.now.events }
+        ensures { IsLatest (IsOwnBefore self.now.events place) result }
+    {
+        self.ties.own(place)
+    }
+
+    /// Where the place is a join: the latest place before it that is of the joined thread or forks that.
+    pub fn joined(&self, place: u32) -> Option<u32>
+        requires { place < length self.now.events }
+        ensures { IsLatest (IsJoinBefore self.now.events place) result }
+    {
+        self.ties.joined(place)
+    }
+
+    /// The writer of the place, where that is a read that has one.
+    pub fn writer(&self, place: u32) -> Option<u32>
+        requires { place < length self.now.events }
+        ensures { (w : ℕ) → (result ≡ Some w) ↔ IsWriterOfRead self.now.events place w }
+    {
+        self.ties.writer(place)
+    }
+
     /// Whether a place is in the row behind the latest place before the later one in its thread. Then it is in each
     /// closed set that holds all places before the later one.
     pub fn precedes(&self, place: u32, later: u32) -> bool
@@ -264,16 +287,35 @@ impl<'a> Fronts<'a> {
         is_below(&self.ties, &self.rows[source as usize], place)
     }
 
-    /// The set of the cuts becomes the least closed set that holds it and all places before the place in program order.
-    pub fn raise(&self, cuts: &mut [u32], place: u32)
+    /// The acquire of some section that the set of the cuts tears. The search begins at a thread, and goes round.
+    pub fn torn(&self, cuts: &[u32], start: u16) -> Option<u32>
+        requires steady { IsSteady self.now.events self.now.threads cuts.now }
+        requires start { start ≤ self.now.threads }
+        ensures some { IfSome result (IsTorn self.now.events cuts.now) }
+        ensures none { IfNone result (IsMended self.now.events cuts.now) }
+    {
+        torn(&self.ties, cuts, start)
+    }
+
+    /// Admits a place to the set of the cuts, and all that is in each closed set that holds it.
+    pub fn admit(&self, cuts: &mut [u32], place: u32)
         requires place { place < length self.now.events }
         requires steady { IsSteady self.now.events self.now.threads cuts.old }
-        requires mended { IsMended self.now.events cuts.old }
         ensures steady { IsSteady self.now.events self.now.threads cuts.new }
-        ensures mended { IsMended self.now.events cuts.new }
-        ensures closure { IsClosure self.now.events (λ i. IsTrue (has (flags_of self.now.events cuts.old) i) ⊎ Before self.now.events i place) (has (flags_of self.now.events cuts.new)) }
+        ensures admits { Admits self.now.events (λ i. i ≡ place) cuts.old cuts.new }
     {
-        admit_before(&self.ties, &self.rows, cuts, place);
-        mend(&self.ties, &self.rows, cuts);
+        admit_row(&self.ties, &self.rows, cuts, place);
+    }
+
+    /// Admits the places before a place in program order in the same way. The answer is whether the set is known to tear no
+    /// section.
+    pub fn admit_before(&self, cuts: &mut [u32], place: u32) -> bool
+        requires place { place < length self.now.events }
+        requires steady { IsSteady self.now.events self.now.threads cuts.old }
+        ensures steady { IsSteady self.now.events self.now.threads cuts.new }
+        ensures admits { Admits self.now.events (λ i. Before self.now.events i place) cuts.old cuts.new }
+        ensures mended { IsTrue result → IsMended self.now.events cuts.new }
+    {
+        admit_before(&self.ties, &self.rows, cuts, place)
     }
 }

@@ -18,8 +18,10 @@ mod sections;
 mod table;
 mod ties;
 mod tips;
+mod torn;
 mod upcoming;
 mod writers;
 
 pub use fronts::Fronts;
+pub use joining::join;
 pub use places::Places;

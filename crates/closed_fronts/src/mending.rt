@@ -1,86 +1,16 @@
 // Sets by cuts that grow by rows.
-ghost use Rattle.std.specs.Prelude.{ℕ, ◌≡◌, ◌<◌, ◌≤◌, ◌+◌, length, Some, IfSome, IfNone};
-ghost use Rattle.trace_laws.specs.Trace.{thread_at, Before};
+ghost use Rattle.std.specs.Prelude.{◌≡◌, ◌<◌, ◌≤◌, ◌+◌, length, Some, IfSome, IsTrue};
+ghost use Rattle.trace_laws.specs.Trace.{Before};
 ghost use Rattle.closed_fronts.specs.Cuts.{Admits};
 ghost use Rattle.closed_fronts.specs.Needs.{IsWriterOfRead};
-ghost use Rattle.closed_fronts.specs.Rows.{IsSteady, AreWithin, IsMended, IsBrokenAt, IsBroken, AreUnbroken, IsAcquireBelow, IsReady, AreRows};
+ghost use Rattle.closed_fronts.specs.Rows.{AreZero, IsSteady, AreWithin, IsMended, IsReady, AreRows};
 
-use crate::joining::{is_below_some, join};
+use crate::joining::{are_zero, join};
 use crate::ties::Ties;
+use crate::torn::torn;
 
-// The release of an acquire of the set, where it is outside the set and a later acquire of the lock is in it. The cut is
-// that of the thread of the acquire.
-fn broken_at(ties: &Ties, cuts: &[u32], acquire: u32, cut: u32) -> Option<u32>
-    requires steady { IsSteady ties.now.events ties.now.threads cuts.now }
-    requires acquire { IsAcquireBelow ties.now.events cuts.now acquire cut }
-    ensures some { IfSome result (IsBrokenAt ties.now.events cuts.now acquire) }
-    ensures none { IfNone result ((r : ℕ) → IsBrokenAt ties.now.events cuts.now acquire r → ⊥) }
-{
-    let Some(release) = ties.release(acquire) else {
-        return None;
-    };
-    if release < cut {
-        return None;
-    }
-    if is_below_some(ties.next(acquire), cuts) {
-        return Some(release);
-    }
-    None
-}
-
-// The same for some acquire of the thread.
-fn broken_of(ties: &Ties, cuts: &[u32], thread: u16) -> Option<u32>
-    requires steady { IsSteady ties.now.events ties.now.threads cuts.now }
-    requires thread { thread < ties.now.threads }
-    ensures some { IfSome result (IsBroken ties.now.events cuts.now) }
-    ensures none { IfNone result ((a r : ℕ) → thread_at ties.now.events a ≡ Some thread → IsBrokenAt ties.now.events cuts.now a r → ⊥) }
-{
-    let cut = cuts[thread as usize];
-    if cut == 0 {
-        return None;
-    }
-    let mut open = ties.opened(cut - 1);
-    while let Some(acquire) = open {
-        if let Some(release) = broken_at(ties, cuts, acquire, cut) {
-            return Some(release);
-        }
-        open = ties.outer(acquire);
-    }
-    None
-}
-
-// The same for some acquire of one of the threads from one number on and below another.
-fn broken_between(ties: &Ties, cuts: &[u32], from: u16, to: u16) -> Option<u32>
-    requires steady { IsSteady ties.now.events ties.now.threads cuts.now }
-    requires known { to ≤ ties.now.threads }
-    ensures some { IfSome result (IsBroken ties.now.events cuts.now) }
-    ensures none { IfNone result (AreUnbroken ties.now.events cuts.now from to) }
-{
-    for thread in from..to {
-        if let Some(release) = broken_of(ties, cuts, thread) {
-            return Some(release);
-        }
-    }
-    None
-}
-
-// The same for some acquire. The search begins at a thread.
-fn broken(ties: &Ties, cuts: &[u32], start: u16) -> Option<u32>
-    requires steady { IsSteady ties.now.events ties.now.threads cuts.now }
-    requires start { start ≤ ties.now.threads }
-    ensures some { IfSome result (IsBroken ties.now.events cuts.now) }
-    ensures none { IfNone result (IsMended ties.now.events cuts.now) }
-{
-    // A trace names threads below their number, as its length says.
-    let _ = ties.len();
-    if let Some(release) = broken_between(ties, cuts, start, ties.threads()) {
-        return Some(release);
-    }
-    broken_between(ties, cuts, 0, start)
-}
-
-// Admits a place, and all that is in each closed set that holds it.
-fn admit_row(ties: &Ties, rows: &[Vec<u32>], cuts: &mut [u32], place: u32)
+/// Admits a place, and all that is in each closed set that holds it.
+pub fn admit_row(ties: &Ties, rows: &[Vec<u32>], cuts: &mut [u32], place: u32)
     requires rows { AreRows ties.now.events ties.now.threads rows.now }
     requires place { place < length rows.now }
     requires steady { IsSteady ties.now.events ties.now.threads cuts.old }
@@ -88,6 +18,7 @@ fn admit_row(ties: &Ties, rows: &[Vec<u32>], cuts: &mut [u32], place: u32)
     ensures steady { IsSteady ties.now.events ties.now.threads cuts.new }
     ensures within { AreWithin cuts.new (length rows.now + 1) }
     ensures admits { Admits ties.now.events (λ i. i ≡ place) cuts.old cuts.new }
+    ensures mended { AreZero cuts.old → IsMended ties.now.events cuts.new }
 {
     join(cuts, &rows[place as usize]);
 }
@@ -101,6 +32,7 @@ fn admit_given(ties: &Ties, rows: &[Vec<u32>], cuts: &mut [u32], place: Option<u
     ensures steady { IsSteady ties.now.events ties.now.threads cuts.new }
     ensures within { AreWithin cuts.new (length rows.now + 1) }
     ensures admits { Admits ties.now.events (λ i. place ≡ Some i) cuts.old cuts.new }
+    ensures mended { AreZero cuts.old → IsMended ties.now.events cuts.new }
 {
     let Some(place) = place else {
         return;
@@ -121,14 +53,18 @@ pub fn mend(ties: &Ties, rows: &[Vec<u32>], cuts: &mut [u32])
     // A trace is lawful, as its length says.
     let _ = ties.len();
     let mut start = 0;
-    while let Some(release) = broken(ties, cuts, start) {
+    while let Some(acquire) = torn(ties, cuts, start) {
+        let Some(release) = ties.release(acquire) else {
+            unreachable!()
+        };
         admit_row(ties, rows, cuts, release);
-        start = ties.event(release).thread.value();
+        start = ties.event(acquire).thread.value();
     }
 }
 
-/// Admits the places before the place in program order.
-pub fn admit_before(ties: &Ties, rows: &[Vec<u32>], cuts: &mut [u32], place: u32)
+/// Admits the places before the place in program order. The answer is whether the set is known to be closed under the rule
+/// of releases too, as it is where it was empty and one row was joined.
+pub fn admit_before(ties: &Ties, rows: &[Vec<u32>], cuts: &mut [u32], place: u32) -> bool
     requires rows { AreRows ties.now.events ties.now.threads rows.now }
     requires place { place < length ties.now.events }
     requires made { place ≤ length rows.now }
@@ -137,11 +73,17 @@ pub fn admit_before(ties: &Ties, rows: &[Vec<u32>], cuts: &mut [u32], place: u32
     ensures steady { IsSteady ties.now.events ties.now.threads cuts.new }
     ensures within { AreWithin cuts.new (length rows.now + 1) }
     ensures admits { Admits ties.now.events (λ i. Before ties.now.events i place) cuts.old cuts.new }
+    ensures mended { IsTrue result → IsMended ties.now.events cuts.new }
 {
     // A trace is lawful, as its length says.
     let _ = ties.len();
+    let empty = are_zero(cuts);
     admit_given(ties, rows, cuts, ties.own(place));
-    admit_given(ties, rows, cuts, ties.joined(place));
+    let Some(joined) = ties.joined(place) else {
+        return empty;
+    };
+    admit_row(ties, rows, cuts, joined);
+    false
 }
 
 /// Admits the writer of the place.

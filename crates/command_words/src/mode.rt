@@ -1,6 +1,6 @@
 // The modes of the program.
-ghost use Rattle.std.specs.Prelude.{◌≡◌, map};
-ghost use Rattle.command_words.specs.ModeNames.{mode_among, mode_named};
+ghost use Rattle.std.specs.Prelude.{◌≡◌, ◌++◌, IfOk, map, string_bytes};
+ghost use Rattle.command_words.specs.ModeNames.{list_text, mode_among, mode_named, modes, names_behind};
 
 use std::alloc::{AllocError, Global};
 
@@ -50,15 +50,24 @@ pub fn named(word: &str) -> Option<Mode>
     named_among(&MODES, word)
 }
 
-/// The list of the modes, as texts for the user show it.
-pub fn list_of_modes(alloc: Global) -> Result<String, AllocError> {
-    let mut list = String::from_str(alloc, "[possible values: ")?;
-    for (i, (name, _)) in MODES.iter().enumerate() {
-        if i > 0 {
-            list.push_str(", ")?;
-        }
+// Adds the names of modes to a list, each behind a comma.
+fn add_names(list: &mut String, modes: &[(&str, Mode)]) -> Result<(), AllocError>
+    ensures { IfOk result (λ _. string_bytes list.new ≡ string_bytes list.old ++ names_behind (map (λ m. (m.0.now, m.1)) modes.now)) }
+{
+    for (name, _) in modes {
+        list.push_str(", ")?;
         list.push_str(name)?;
     }
+    Ok(())
+}
+
+/// The list of the modes, as texts for the user show it.
+pub fn list_of_modes(alloc: Global) -> Result<String, AllocError>
+    ensures { IfOk result (λ list. string_bytes list ≡ list_text modes) }
+{
+    let mut list = String::from_str(alloc, "[possible values: ")?;
+    list.push_str(MODES[0].0)?;
+    add_names(&mut list, &MODES[1..])?;
     list.push_str("]")?;
     Ok(list)
 }

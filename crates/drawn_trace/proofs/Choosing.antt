@@ -7,7 +7,7 @@ use Rattle.trace_laws.specs.declared.event.Op.TheVariants.{Read, Write, Acquire,
 use Rattle.drawn_trace.specs.declared.numbers.TheConstants.{LOCKS, VARS}
 use Rattle.drawn_trace.specs.declared.held.Held.{Held}
 use Rattle.drawn_trace.specs.declared.held.Held.TheVariants.{Nothing, One, Two}
-use Rattle.drawn_trace.specs.Drawn.{is_free, may_take, release_or, acquire_or_release, choose}
+use Rattle.drawn_trace.specs.Drawn.{is_free, may_acquire, release_or, acquire_or_release, choose}
 use Rattle.drawn_trace.proofs.Holding.{HasRoom, IsLast}
 
 -- an operation that may be chosen
@@ -32,7 +32,7 @@ module _ (held : List Held) (own : Held) (o : ℕ) where
   released (Two j k) p h = refl
 
   -- a thread that may take a lock has room
-  has_room : (locks : Held) → may_take locks o ≡ true → HasRoom locks
+  has_room : (locks : Held) → may_acquire locks o ≡ true → HasRoom locks
   has_room Nothing h = tt
   has_room (One k) h = tt
   has_room (Two j k) h = absurd (true≢false (sym h))
@@ -43,8 +43,8 @@ module _ (held : List Held) (own : Held) (o : ℕ) where
 
   -- what is chosen where a lock is asked for
   acquired : IsChosen held own (acquire_or_release held own o)
-  acquired = either (is_free held (o % LOCKS) && may_take own o) (Acquire (o % LOCKS)) (release_or own (Read (o % VARS)))
-      (λ h. let parts = both (is_free held (o % LOCKS)) (may_take own o) h in (mod-lt o (omega arith), parts.0, has_room own parts.1))
+  acquired = either (is_free held (o % LOCKS) && may_acquire own o) (Acquire (o % LOCKS)) (release_or own (Read (o % VARS)))
+      (λ h. let parts = both (is_free held (o % LOCKS)) (may_acquire own o) h in (mod-lt o (omega arith), parts.0, has_room own parts.1))
       (released own (Read (o % VARS)) of_vars)
 
   -- what is chosen

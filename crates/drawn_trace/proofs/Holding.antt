@@ -7,7 +7,7 @@ use Rattle.std.proofs.lemmas.Map.Keys.{any_passes_from_place}
 use Rattle.trace_laws.proofs.Growing.{slice_get-set_same, slice_get-set_other}
 use Rattle.drawn_trace.specs.declared.held.Held.{Held}
 use Rattle.drawn_trace.specs.declared.held.Held.TheVariants.{Nothing, One, Two}
-use Rattle.drawn_trace.specs.Drawn.{has, with_lock, without_last, held_by, is_free}
+use Rattle.drawn_trace.specs.Drawn.{holds_lock, with_last, without_last, held_by, is_free}
 
 -- ---- two tests
 
@@ -39,19 +39,19 @@ AreApart (Two j k) = j ≢ k
 AreApart _ = Unit {0}
 
 -- the lock that is taken is held
-pub with_new : (own : Held) (l : ℕ) → HasRoom own → has (with_lock own l) l ≡ true
+pub with_new : (own : Held) (l : ℕ) → HasRoom own → holds_lock (with_last own l) l ≡ true
 with_new Nothing l room = eq-eqb l l refl
 with_new (One k) l room = second_passes (k == l) (l == l) (eq-eqb l l refl)
 with_new (Two j k) l room = absurd room
 
 -- and so are those that were held
-pub with_old : (own : Held) (l m : ℕ) → has own m ≡ true → has (with_lock own l) m ≡ true
+pub with_old : (own : Held) (l m : ℕ) → holds_lock own m ≡ true → holds_lock (with_last own l) m ≡ true
 with_old Nothing l m h = absurd (true≢false (sym h))
 with_old (One k) l m h = first_passes (k == m) (l == m) h
 with_old (Two j k) l m h = h
 
 -- and no others
-pub with_cases : (own : Held) (l m : ℕ) → has (with_lock own l) m ≡ true → (has own m ≡ true) ⊎ (l ≡ m)
+pub with_cases : (own : Held) (l m : ℕ) → holds_lock (with_last own l) m ≡ true → (holds_lock own m ≡ true) ⊎ (l ≡ m)
 with_cases Nothing l m h = inr (eqb-true l m h)
 with_cases (One k) l m h = go (either_passes (k == m) (l == m) h)
   where
@@ -61,7 +61,7 @@ with_cases (One k) l m h = go (either_passes (k == m) (l == m) h)
 with_cases (Two j k) l m h = inl h
 
 -- a lock that was not held is another one
-pub with_apart : (own : Held) (l : ℕ) → AreApart own → (has own l ≡ true → ⊥) → AreApart (with_lock own l)
+pub with_apart : (own : Held) (l : ℕ) → AreApart own → (holds_lock own l ≡ true → ⊥) → AreApart (with_last own l)
 with_apart Nothing l apart free = tt
 with_apart (One k) l apart free = λ same. free (eq-eqb k l same)
 with_apart (Two j k) l apart free = apart
@@ -75,13 +75,13 @@ IsLast (One k) l = k ≡ l
 IsLast (Two j k) l = k ≡ l
 
 -- is held
-pub last_held : (own : Held) (l : ℕ) → IsLast own l → has own l ≡ true
+pub last_held : (own : Held) (l : ℕ) → IsLast own l → holds_lock own l ≡ true
 last_held Nothing l last = absurd last
 last_held (One k) l last = eq-eqb k l last
 last_held (Two j k) l last = second_passes (j == l) (k == l) (eq-eqb k l last)
 
 -- without it the others are held
-pub without_cases : (own : Held) (l m : ℕ) → IsLast own l → AreApart own → has (without_last own) m ≡ true → (has own m ≡ true) × (l ≢ m)
+pub without_cases : (own : Held) (l m : ℕ) → IsLast own l → AreApart own → holds_lock (without_last own) m ≡ true → (holds_lock own m ≡ true) × (l ≢ m)
 without_cases Nothing l m last apart h = absurd last
 without_cases (One k) l m last apart h = absurd (true≢false (sym h))
 without_cases (Two j k) l m last apart h =
@@ -89,7 +89,7 @@ without_cases (Two j k) l m last apart h =
     (first_passes (j == m) (k == m) h, λ same. apart (first ∙ sym same ∙ sym last))
 
 -- and all of them
-pub without_old : (own : Held) (l m : ℕ) → IsLast own l → has own m ≡ true → l ≢ m → has (without_last own) m ≡ true
+pub without_old : (own : Held) (l m : ℕ) → IsLast own l → holds_lock own m ≡ true → l ≢ m → holds_lock (without_last own) m ≡ true
 without_old Nothing l m last h other = absurd last
 without_old (One k) l m last h other = absurd (other (sym last ∙ eqb-true k m h))
 without_old (Two j k) l m last h other = go (either_passes (j == m) (k == m) h)
@@ -115,12 +115,12 @@ pub held_other : (held : List Held) (t u : ℕ) (locks : Held) → u ≢ t → h
 held_other held t u locks other = ap (λ (o : Option Held). unwrap_or o Nothing) (slice_get-set_other held t u locks other)
 
 -- a free lock is not held
-pub not_held : (held : List Held) (l u : ℕ) → is_free held l ≡ true → has (held_by held u) l ≡ true → ⊥
+pub not_held : (held : List Held) (l u : ℕ) → is_free held l ≡ true → holds_lock (held_by held u) l ≡ true → ⊥
 not_held held l u free h = go (slice_get held u) refl h
   where
-    none : list_any (λ locks. has locks l) held ≡ false
-    none = not-true (list_any (λ locks. has locks l) held) free
+    none : list_any (λ locks. holds_lock locks l) held ≡ false
+    none = not-true (list_any (λ locks. holds_lock locks l) held) free
 
-    go : (o : Option Held) → slice_get held u ≡ o → has (unwrap_or o Nothing) l ≡ true → ⊥
+    go : (o : Option Held) → slice_get held u ≡ o → holds_lock (unwrap_or o Nothing) l ≡ true → ⊥
     go None is has_it = true≢false (sym has_it)
-    go (Some locks) is has_it = true≢false (sym (any_passes_from_place (λ locks. has locks l) held u locks is has_it) ∙ none)
+    go (Some locks) is has_it = true≢false (sym (any_passes_from_place (λ locks. holds_lock locks l) held u locks is has_it) ∙ none)

@@ -12,7 +12,7 @@ use Rattle.std_text.specs.Rereading.{AreReadable}
 use Rattle.std_text.specs.Writing.{name_at}
 use Rattle.std_text.proofs.Spelling.{all_digits, list_all-weaken}
 use Rattle.drawn_trace.specs.declared.numbers.TheConstants.{THREADS, LOCKS, VARS}
-use Rattle.drawn_trace.specs.Drawn.{numbered, drawn_names}
+use Rattle.drawn_trace.specs.Drawn.{letter_names, drawn_names}
 
 -- a number that is not that of a digit is not this one
 no_digit : (b n : ℕ) → is_digit b ≡ true → (is_digit n ≡ false) → not (b == n) ≡ true
@@ -29,13 +29,13 @@ digit_of_name b h = rw (no_digit b 10 h refl, no_digit b 40 h refl, no_digit b 4
 -- names of a letter and a number
 module _ (letter count : ℕ) (of_name : is_name_byte letter ≡ true) (few : count ≤ 64) where
   -- how many there are
-  pub count_is : length (numbered (letter ∷ []) count) ≡ count
-  unfolding numbered
+  pub count_is : length (letter_names (letter ∷ []) count) ≡ count
+  unfolding letter_names
   count_is = length-map-range_with_len (λ n. (letter ∷ []) ++ decimal n) 0 count
 
   -- the name of a number
-  pub name_is : (n : ℕ) → n < count → name_at (numbered (letter ∷ []) count) n ≡ letter ∷ decimal n
-  unfolding numbered
+  pub name_is : (n : ℕ) → n < count → name_at (letter_names (letter ∷ []) count) n ≡ letter ∷ decimal n
+  unfolding letter_names
   name_is n less = unwrap_or-slice_get (map (λ m. (letter ∷ []) ++ decimal m) (range_with_len 0 count)) n [] ∙ get_or-map-range_with_len (λ m. (letter ∷ []) ++ decimal m) 0 count n n [] less (omega arith)
 
   -- is short
@@ -54,31 +54,31 @@ module _ (letter count : ℕ) (of_name : is_name_byte letter ≡ true) (few : co
   name_distinct m n less_m less_n same = decimal_injective m n (omega arith) (omega arith) (cc)
 
   -- all of them can be read
-  pub numbered_readable : (limit : ℕ) → count ≤ limit → AreReadable (numbered (letter ∷ []) count) limit
-  numbered_readable limit within = record {
+  pub letter_names_readable : (limit : ℕ) → count ≤ limit → AreReadable (letter_names (letter ∷ []) count) limit
+  letter_names_readable limit within = record {
     valid = λ n less. let is = name_is n (less_than_count n less) in ap is_name is ∙ name_valid n (less_than_count n less);
     distinct = λ m n less_m less_n same. name_distinct m n (less_than_count m less_m) (less_than_count n less_n)
         (sym (name_is m (less_than_count m less_m)) ∙ same ∙ name_is n (less_than_count n less_n));
     few = let size = count_is in omega arith;
   }
     where
-      less_than_count : (n : ℕ) → n < length (numbered (letter ∷ []) count) → n < count
+      less_than_count : (n : ℕ) → n < length (letter_names (letter ∷ []) count) → n < count
       less_than_count n less = let size = count_is in omega arith
 
 -- ---- the names
 
 -- of the threads
-pub threads_are : drawn_names.threads ≡ numbered (84 ∷ []) THREADS
+pub threads_are : drawn_names.threads ≡ letter_names (84 ∷ []) THREADS
 unfolding drawn_names
 threads_are = refl
 
 -- of the locks
-pub locks_are : drawn_names.locks ≡ numbered (76 ∷ []) LOCKS
+pub locks_are : drawn_names.locks ≡ letter_names (76 ∷ []) LOCKS
 unfolding drawn_names
 locks_are = refl
 
 -- of the variables
-pub vars_are : drawn_names.vars ≡ numbered (88 ∷ []) VARS
+pub vars_are : drawn_names.vars ≡ letter_names (88 ∷ []) VARS
 unfolding drawn_names
 vars_are = refl
 

@@ -16,9 +16,9 @@ use Rattle.std_text.specs.Writing.{name_at, word_of, operand_name, event_line, t
 use Rattle.std_text.specs.Rereading.{IsWritable, HasText}
 use Rattle.std_text.proofs.ReadAgain.{written_is_read}
 use Rattle.drawn_trace.specs.declared.numbers.TheConstants.{THREADS, LOCKS, VARS}
-use Rattle.drawn_trace.specs.Drawn.{State, first_state, turn, events_from, drawn_events, drawn_names, drawn_text, IsReadable}
+use Rattle.drawn_trace.specs.Drawn.{DrawingState, first_state, turn, events_from, drawn_events, drawn_names, drawn_text, IsReadable}
 use Rattle.drawn_trace.proofs.Turning.{IsDrawn, IsTurn, Sound, sound_turn, sound_first, sound_from}
-use Rattle.drawn_trace.proofs.Naming.{name_short, numbered_readable, threads_are, locks_are, vars_are, thread_count, lock_count, var_count, thread_name, lock_name, var_name}
+use Rattle.drawn_trace.proofs.Naming.{name_short, letter_names_readable, threads_are, locks_are, vars_are, thread_count, lock_count, var_count, thread_name, lock_name, var_name}
 
 -- what a drawn operation is on has a name
 operand_named : (o : Op) → IsDrawn o → IsOperandNamed drawn_names o
@@ -74,13 +74,13 @@ lines_short f (e ∷ events) each =
     omega (arith, length-append (f e) (flat_map f events))
 
 -- so many turns make so many events
-count_from : (n : ℕ) (s : State) → length (events_from s n) ≡ n
+count_from : (n : ℕ) (s : DrawingState) → length (events_from s n) ≡ n
 count_from zero s = refl
 count_from (suc n) s = let more = count_from n (turn s).1 in omega arith
 
 module _ (seed events : ℕ) (few : events ≤ MAX_EVENTS) where
   -- the events are those of sound turns
-  all_sound : (last : State) × Sound (drawn_events seed events) last
+  all_sound : (last : DrawingState) × Sound (drawn_events seed events) last
   unfolding drawn_events
   all_sound = sound_from events [] (first_state seed) (sound_first seed)
 
@@ -110,9 +110,9 @@ module _ (seed events : ℕ) (few : events ≤ MAX_EVENTS) where
   has_text = record {
     lawful = all_sound.1.lawful;
     size = let count = size in omega arith;
-    threads = rw threads_are (numbered_readable 84 THREADS refl (omega arith) MAX_THREADS (omega arith));
-    locks = rw locks_are (numbered_readable 76 LOCKS refl (omega arith) MAX_LOCKS (omega arith));
-    vars = rw vars_are (numbered_readable 88 VARS refl (omega arith) MAX_VARS (omega arith));
+    threads = rw threads_are (letter_names_readable 84 THREADS refl (omega arith) MAX_THREADS (omega arith));
+    locks = rw locks_are (letter_names_readable 76 LOCKS refl (omega arith) MAX_LOCKS (omega arith));
+    vars = rw vars_are (letter_names_readable 88 VARS refl (omega arith) MAX_VARS (omega arith));
     each = each_writable;
     short = let count = size in let short = lines_short (event_line drawn_names) (drawn_events seed events) each_short in omega arith;
   }
@@ -134,7 +134,7 @@ module _ (seed events : ℕ) (few : events ≤ MAX_EVENTS) where
 -- ---- the loop
 
 -- after i turns of so many the state and the text are those of a front of the events
-pub record Drew (seed events i : ℕ) (s : State) (text : List ℕ) : Type 0 where
+pub record Drew (seed events i : ℕ) (s : DrawingState) (text : List ℕ) : Type 0 where
   pub front : List Event
   pub sound : Sound front s
   pub count : length front ≡ i
@@ -146,7 +146,7 @@ pub drew_none : (seed events : ℕ) → Drew seed events 0 (first_state seed) []
 unfolding drawn_events
 drew_none seed events = record { front = []; sound = sound_first seed; count = refl; rest = ap (events_from (first_state seed)) (omega arith); written = refl }
 
-module _ (seed events i : ℕ) (s : State) (text : List ℕ) (less : i < events) (drew : Drew seed events i s text) where
+module _ (seed events i : ℕ) (s : DrawingState) (text : List ℕ) (less : i < events) (drew : Drew seed events i s text) where
   -- the place of the next event
   pub drew_place : s.place ≡ i
   drew_place = drew.sound.place ∙ drew.count
@@ -177,7 +177,7 @@ module _ (seed events i : ℕ) (s : State) (text : List ℕ) (less : i < events)
       step = omega arith
 
 -- after the last
-pub drew_all : (seed events : ℕ) (s : State) (text : List ℕ) → Drew seed events events s text → text ≡ drawn_text seed events
+pub drew_all : (seed events : ℕ) (s : DrawingState) (text : List ℕ) → Drew seed events events s text → text ≡ drawn_text seed events
 unfolding drawn_text
 drew_all seed events s text drew =
     let none : events - events ≡ 0 = omega arith in

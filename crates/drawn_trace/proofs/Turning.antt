@@ -1,5 +1,5 @@
 -- The events of the turns so far, and what the threads hold after them.
-use Rattle.std.proofs.Common.{◌≡◌, ◌≢◌, ℕ, zero, suc, ◌<◌, ◌%◌, true, false, true≢false, List, [], ◌∷◌, ◌++◌, length, Some, ◌⊎◌, inl, inr, refl, sym, ap, subst, ◌∙◌, arith, length-append, append_assoc, append-nil}
+use Rattle.std.proofs.Common.{◌≡◌, ◌≢◌, ℕ, zero, suc, ◌<◌, ◌%◌, true, true≢false, List, [], ◌∷◌, ◌++◌, length, Some, ◌⊎◌, inl, inr, refl, sym, ap, subst, ◌∙◌, arith, length-append, append_assoc, append-nil}
 use Rattle.std.specs.Prelude.{◌↔◌, slice_get, slice_set}
 use Rattle.std.proofs.Math.ListN.{length-set}
 use Rattle.std.proofs.Math.Nat.{mod-lt}
@@ -17,7 +17,7 @@ use Rattle.trace_laws.proofs.Tables.{Lawful-nil}
 use Rattle.drawn_trace.specs.declared.numbers.TheConstants.{THREADS, LOCKS, VARS}
 use Rattle.drawn_trace.specs.declared.held.Held.{Held}
 use Rattle.drawn_trace.specs.declared.held.Held.TheVariants.{Nothing}
-use Rattle.drawn_trace.specs.Drawn.{has, locks_after, held_by, choose, words, State, first_state, event_at, after_operation, turn, events_from}
+use Rattle.drawn_trace.specs.Drawn.{holds_lock, locks_after, held_by, choose, words, DrawingState, first_state, event_at, after_operation, turn, events_from}
 use Rattle.drawn_trace.proofs.Holding.{AreApart, IsLast, with_new, with_old, with_cases, with_apart, last_held, without_cases, without_old, without_apart, held_same, held_other, not_held}
 use Rattle.drawn_trace.proofs.Choosing.{IsChosen, chosen}
 
@@ -39,17 +39,17 @@ pub record IsTurn (i : ℕ) (e : Event) : Type 0 where
   pub location : e.loc ≡ i
 
 -- the events so far are lawful, and the state says what they did
-pub record Sound (front : List Event) (s : State) : Type 0 where
+pub record Sound (front : List Event) (s : DrawingState) : Type 0 where
   pub threads : length s.held ≡ THREADS
   pub place : s.place ≡ length front
   pub lawful : Lawful front
   pub each : (i : ℕ) (e : Event) → slice_get front i ≡ Some e → IsTurn i e
-  pub holds : (t l : ℕ) → (has (held_by s.held t) l ≡ true) ↔ HoldsNow front t l
+  pub holds : (t l : ℕ) → (holds_lock (held_by s.held t) l ≡ true) ↔ HoldsNow front t l
   pub apart : (t : ℕ) → AreApart (held_by s.held t)
 
 -- ---- one event more
 
-module _ (front : List Event) (s : State) (sound : Sound front s) (t : ℕ) (thread : t < THREADS) (op : Op) (choice : IsChosen s.held (held_by s.held t) op) where
+module _ (front : List Event) (s : DrawingState) (sound : Sound front s) (t : ℕ) (thread : t < THREADS) (op : Op) (choice : IsChosen s.held (held_by s.held t) op) where
   -- what the thread holds
   abbrev own : Held
   own = held_by s.held t
@@ -122,41 +122,41 @@ module _ (front : List Event) (s : State) (sound : Sound front s) (t : ℕ) (thr
   -- what the own thread holds after it
   module _ (l : ℕ) where
     -- an operation that is neither an acquire nor a release changes nothing
-    unchanged : (op ≡ Acquire l → ⊥) → (op ≡ Release l → ⊥) → (has own l ≡ true) ↔ HoldsNow (front ++ event ∷ []) t l
+    unchanged : (op ≡ Acquire l → ⊥) → (op ≡ Release l → ⊥) → (holds_lock own l ≡ true) ↔ HoldsNow (front ++ event ∷ []) t l
     unchanged no_acquire no_release = (λ h. hold_keeps front event t l ((sound.holds t l).0 h) (λ same released. no_release released), λ h. go (hold_cases front event t l h))
       where
-        go : (HoldsNow front t l × ((event.thread ≡ t) → (event.op ≡ Release l) → ⊥)) ⊎ ((event.thread ≡ t) × (event.op ≡ Acquire l)) → has own l ≡ true
+        go : (HoldsNow front t l × ((event.thread ≡ t) → (event.op ≡ Release l) → ⊥)) ⊎ ((event.thread ≡ t) × (event.op ≡ Acquire l)) → holds_lock own l ≡ true
         go (inl old) = (sound.holds t l).1 old.0
         go (inr new) = absurd (no_acquire new.1)
 
     -- an acquire adds its lock
-    with_acquired : (k : ℕ) → op ≡ Acquire k → IsChosen s.held own (Acquire k) → (has (locks_after own (Acquire k)) l ≡ true) ↔ HoldsNow (front ++ event ∷ []) t l
+    with_acquired : (k : ℕ) → op ≡ Acquire k → IsChosen s.held own (Acquire k) → (holds_lock (locks_after own (Acquire k)) l ≡ true) ↔ HoldsNow (front ++ event ∷ []) t l
     with_acquired k is h = (λ now. to (with_cases own k l now), λ now. go (hold_cases front event t l now))
       where
-        to : (has own l ≡ true) ⊎ (k ≡ l) → HoldsNow (front ++ event ∷ []) t l
+        to : (holds_lock own l ≡ true) ⊎ (k ≡ l) → HoldsNow (front ++ event ∷ []) t l
         to (inl old) = hold_keeps front event t l ((sound.holds t l).0 old) (λ same released. let no = released in cc)
         to (inr new) = hold_acquires front event l (is ∙ ap Acquire new)
 
-        go : (HoldsNow front t l × ((event.thread ≡ t) → (event.op ≡ Release l) → ⊥)) ⊎ ((event.thread ≡ t) × (event.op ≡ Acquire l)) → has (locks_after own (Acquire k)) l ≡ true
+        go : (HoldsNow front t l × ((event.thread ≡ t) → (event.op ≡ Release l) → ⊥)) ⊎ ((event.thread ≡ t) × (event.op ≡ Acquire l)) → holds_lock (locks_after own (Acquire k)) l ≡ true
         go (inl old) = with_old own k l ((sound.holds t l).1 old.0)
         go (inr new) =
             let acquires : op ≡ Acquire l = new.1 in
             let same : k ≡ l = cc in
-            subst (λ (m : ℕ). has (locks_after own (Acquire k)) m ≡ true) same (with_new own k h.2)
+            subst (λ (m : ℕ). holds_lock (locks_after own (Acquire k)) m ≡ true) same (with_new own k h.2)
 
     -- a release takes the last one away
-    without_released : (k : ℕ) → op ≡ Release k → IsLast own k → (has (locks_after own (Release k)) l ≡ true) ↔ HoldsNow (front ++ event ∷ []) t l
+    without_released : (k : ℕ) → op ≡ Release k → IsLast own k → (holds_lock (locks_after own (Release k)) l ≡ true) ↔ HoldsNow (front ++ event ∷ []) t l
     without_released k is last = (λ now. to (without_cases own k l last (sound.apart t) now), λ now. go (hold_cases front event t l now))
       where
-        to : (has own l ≡ true) × (k ≢ l) → HoldsNow (front ++ event ∷ []) t l
+        to : (holds_lock own l ≡ true) × (k ≢ l) → HoldsNow (front ++ event ∷ []) t l
         to old = hold_keeps front event t l ((sound.holds t l).0 old.0) (λ same released. let releases : op ≡ Release l = released in let equal : k ≡ l = cc in old.1 equal)
 
-        go : (HoldsNow front t l × ((event.thread ≡ t) → (event.op ≡ Release l) → ⊥)) ⊎ ((event.thread ≡ t) × (event.op ≡ Acquire l)) → has (locks_after own (Release k)) l ≡ true
+        go : (HoldsNow front t l × ((event.thread ≡ t) → (event.op ≡ Release l) → ⊥)) ⊎ ((event.thread ≡ t) × (event.op ≡ Acquire l)) → holds_lock (locks_after own (Release k)) l ≡ true
         go (inl old) = without_old own k l last ((sound.holds t l).1 old.0) (λ same. old.1 refl (is ∙ ap Release same))
         go (inr new) = let acquires : op ≡ Acquire l = new.1 in absurd (cc)
 
     -- by operation
-    own_holds : (o : Op) → op ≡ o → IsChosen s.held own o → (has (locks_after own o) l ≡ true) ↔ HoldsNow (front ++ event ∷ []) t l
+    own_holds : (o : Op) → op ≡ o → IsChosen s.held own o → (holds_lock (locks_after own o) l ≡ true) ↔ HoldsNow (front ++ event ∷ []) t l
     own_holds (Read x) is h = unchanged (λ other. cc) (λ other. cc)
     own_holds (Write x) is h = unchanged (λ other. cc) (λ other. cc)
     own_holds (Acquire k) is h = with_acquired k is h
@@ -165,10 +165,10 @@ module _ (front : List Event) (s : State) (sound : Sound front s) (t : ℕ) (thr
     own_holds (Join u) is h = absurd h
 
   -- what another thread holds stays
-  other_after : (u l : ℕ) → u ≢ t → (has (held_by s.held u) l ≡ true) ↔ HoldsNow (front ++ event ∷ []) u l
+  other_after : (u l : ℕ) → u ≢ t → (holds_lock (held_by s.held u) l ≡ true) ↔ HoldsNow (front ++ event ∷ []) u l
   other_after u l other = (λ h. hold_keeps front event u l ((sound.holds u l).0 h) (λ same released. other (sym same)), λ h. go (hold_cases front event u l h))
     where
-      go : (HoldsNow front u l × ((event.thread ≡ u) → (event.op ≡ Release l) → ⊥)) ⊎ ((event.thread ≡ u) × (event.op ≡ Acquire l)) → has (held_by s.held u) l ≡ true
+      go : (HoldsNow front u l × ((event.thread ≡ u) → (event.op ≡ Release l) → ⊥)) ⊎ ((event.thread ≡ u) × (event.op ≡ Acquire l)) → holds_lock (held_by s.held u) l ≡ true
       go (inl old) = (sound.holds u l).1 old.0
       go (inr new) = absurd (other (sym new.0))
 
@@ -177,13 +177,13 @@ module _ (front : List Event) (s : State) (sound : Sound front s) (t : ℕ) (thr
   own_is = let size = sound.threads in held_same s.held t (locks_after own op) (omega arith)
 
   -- what each thread holds
-  holds_after : (u l : ℕ) → (has (held_by held u) l ≡ true) ↔ HoldsNow (front ++ event ∷ []) u l
+  holds_after : (u l : ℕ) → (holds_lock (held_by held u) l ≡ true) ↔ HoldsNow (front ++ event ∷ []) u l
   holds_after u l = go (cases_eq u t)
     where
-      go : (u ≡ t) ⊎ (u ≢ t) → (has (held_by held u) l ≡ true) ↔ HoldsNow (front ++ event ∷ []) u l
-      go (inl same) = subst (λ (v : ℕ). (has (held_by held v) l ≡ true) ↔ HoldsNow (front ++ event ∷ []) v l) (sym same)
-          (subst (λ (locks : Held). (has locks l ≡ true) ↔ HoldsNow (front ++ event ∷ []) t l) (sym own_is) (own_holds l op refl choice))
-      go (inr other) = subst (λ (locks : Held). (has locks l ≡ true) ↔ HoldsNow (front ++ event ∷ []) u l) (sym (held_other s.held t u (locks_after own op) other)) (other_after u l other)
+      go : (u ≡ t) ⊎ (u ≢ t) → (holds_lock (held_by held u) l ≡ true) ↔ HoldsNow (front ++ event ∷ []) u l
+      go (inl same) = subst (λ (v : ℕ). (holds_lock (held_by held v) l ≡ true) ↔ HoldsNow (front ++ event ∷ []) v l) (sym same)
+          (subst (λ (locks : Held). (holds_lock locks l ≡ true) ↔ HoldsNow (front ++ event ∷ []) t l) (sym own_is) (own_holds l op refl choice))
+      go (inr other) = subst (λ (locks : Held). (holds_lock locks l ≡ true) ↔ HoldsNow (front ++ event ∷ []) u l) (sym (held_other s.held t u (locks_after own op) other)) (other_after u l other)
 
   -- no thread holds a lock twice
   own_apart : (o : Op) → IsChosen s.held own o → AreApart (locks_after own o)
@@ -216,7 +216,7 @@ module _ (front : List Event) (s : State) (sound : Sound front s) (t : ℕ) (thr
 -- ---- turns
 
 -- so it is after a turn
-pub sound_turn : (front : List Event) (s : State) → Sound front s → Sound (front ++ (turn s).0 ∷ []) (turn s).1
+pub sound_turn : (front : List Event) (s : DrawingState) → Sound front s → Sound (front ++ (turn s).0 ∷ []) (turn s).1
 unfolding turn
 sound_turn front s sound =
     let drawn = words s.generator in
@@ -239,12 +239,12 @@ sound_first seed = record {
   place = refl;
   lawful = Lawful-nil;
   each = λ i e at_i. cc;
-  holds = λ t l. (λ h. absurd (true≢false (sym (subst (λ (locks : Held). has locks l ≡ true) (nothing_held seed t) h))), λ h. absurd (let before = h.before in omega arith));
+  holds = λ t l. (λ h. absurd (true≢false (sym (subst (λ (locks : Held). holds_lock locks l ≡ true) (nothing_held seed t) h))), λ h. absurd (let before = h.before in omega arith));
   apart = λ t. subst AreApart (sym (nothing_held seed t)) tt;
 }
 
 -- after any number of turns
-pub sound_from : (n : ℕ) (front : List Event) (s : State) → Sound front s → (last : State) × Sound (front ++ events_from s n) last
+pub sound_from : (n : ℕ) (front : List Event) (s : DrawingState) → Sound front s → (last : DrawingState) × Sound (front ++ events_from s n) last
 sound_from zero front s sound = (s, subst (λ (events : List Event). Sound events s) (sym (append-nil front)) sound)
 sound_from (suc n) front s sound =
     let more = sound_from n (front ++ (turn s).0 ∷ []) (turn s).1 (sound_turn front s sound) in

@@ -19,16 +19,16 @@ use Rattle.drawn_trace.specs.declared.drawing.Words.{Words}
 -- ---- what a thread holds
 
 -- whether a thread that holds these locks holds the lock
-abbrev pub has : Held → ℕ → Bool
-has Nothing l = false
-has (One k) l = k == l
-has (Two j k) l = (j == l) || (k == l)
+abbrev pub holds_lock : Held → ℕ → Bool
+holds_lock Nothing l = false
+holds_lock (One k) l = k == l
+holds_lock (Two j k) l = (j == l) || (k == l)
 
 -- the locks with one more that is taken: a thread with two takes none
-abbrev pub with_lock : Held → ℕ → Held
-with_lock Nothing l = One l
-with_lock (One k) l = Two k l
-with_lock (Two j k) l = Two j k
+abbrev pub with_last : Held → ℕ → Held
+with_last Nothing l = One l
+with_last (One k) l = Two k l
+with_last (Two j k) l = Two j k
 
 -- the locks without the one that was taken last
 abbrev pub without_last : Held → Held
@@ -38,7 +38,7 @@ without_last (Two j k) = One j
 
 -- what a thread holds after its operation
 abbrev pub locks_after : Held → Op → Held
-locks_after own (Acquire l) = with_lock own l
+locks_after own (Acquire l) = with_last own l
 locks_after own (Release l) = without_last own
 locks_after own _ = own
 
@@ -50,13 +50,13 @@ held_by held t = unwrap_or (slice_get held t) Nothing
 
 -- whether no thread holds the lock
 abbrev pub is_free : List Held → ℕ → Bool
-is_free held l = not (list_any (λ locks. has locks l) held)
+is_free held l = not (list_any (λ locks. holds_lock locks l) held)
 
 -- whether a thread that holds these locks takes lock o modulo 8, where that one is free: with none it does, with one it does where the number of that one is less or the quotient of o by 8 is divisible by 64, and with two it does not
-abbrev pub may_take : Held → ℕ → Bool
-may_take Nothing o = true
-may_take (One k) o = nat_lt k (o % LOCKS) || (o / LOCKS % 64 == 0)
-may_take (Two j k) o = false
+abbrev pub may_acquire : Held → ℕ → Bool
+may_acquire Nothing o = true
+may_acquire (One k) o = nat_lt k (o % LOCKS) || (o / LOCKS % 64 == 0)
+may_acquire (Two j k) o = false
 
 -- the release of the lock that was taken last, or else the other operation
 abbrev pub release_or : Held → Op → Op
@@ -67,7 +67,7 @@ release_or (Two j k) other = Release k
 -- an acquire where the lock may be taken, or else a release, or else a read
 abbrev pub acquire_or_release : List Held → Held → ℕ → Op
 acquire_or_release held own o =
-    if is_free held (o % LOCKS) && may_take own o then Acquire (o % LOCKS)
+    if is_free held (o % LOCKS) && may_acquire own o then Acquire (o % LOCKS)
     else release_or own (Read (o % VARS))
 
 -- the operation of a thread that holds its own locks, by the first rule that applies to the action a
@@ -81,13 +81,13 @@ choose held own a o =
 -- ---- the turns
 
 -- the generator, what each thread holds, and the place of the next event
-pub record State : Type 0 where
+pub record DrawingState : Type 0 where
   pub generator : Lcg
   pub held : List Held
   pub place : ℕ
 
 -- before the first turn
-abbrev pub first_state : ℕ → State
+abbrev pub first_state : ℕ → DrawingState
 first_state seed = record { generator = started 64 multiplier_64 seed (increment_of 64 1); held = replicate THREADS Nothing; place = 0 }
 
 -- the three words that a turn draws, and the generator behind them
@@ -103,11 +103,11 @@ abbrev pub event_at : ℕ → Op → ℕ → Event
 event_at t op place = record { thread = t; op = op; loc = place }
 
 -- the state after an operation of a thread
-abbrev pub after_operation : State → Lcg → ℕ → Op → State
+abbrev pub after_operation : DrawingState → Lcg → ℕ → Op → DrawingState
 after_operation s generator t op = record { generator = generator; held = slice_set s.held t (locks_after (held_by s.held t) op); place = s.place + 1 }
 
 -- the event of a turn, and the state after it
-unfoldable pub turn : State → Event × State
+unfoldable pub turn : DrawingState → Event × DrawingState
 turn s =
     let drawn = words s.generator in
     let t = drawn.0.thread % THREADS in
@@ -115,7 +115,7 @@ turn s =
     (event_at t op s.place, after_operation s drawn.1 t op)
 
 -- the events of so many turns
-abbrev pub events_from : State → ℕ → List Event
+abbrev pub events_from : DrawingState → ℕ → List Event
 events_from s zero = []
 events_from s (suc n) = (turn s).0 ∷ events_from (turn s).1 n
 
@@ -126,12 +126,12 @@ drawn_events seed events = events_from (first_state seed) events
 -- ---- their text
 
 -- so many names of a letter, with the numbers from 0
-unfoldable pub numbered : List ℕ → ℕ → List (List ℕ)
-numbered letter count = map (λ n. letter ++ decimal n) (range_with_len 0 count)
+unfoldable pub letter_names : List ℕ → ℕ → List (List ℕ)
+letter_names letter count = map (λ n. letter ++ decimal n) (range_with_len 0 count)
 
 -- the names T0 to T3, L0 to L7 and X0 to X63
 unfoldable pub drawn_names : NameLists
-drawn_names = record { threads = numbered (codes "T") THREADS; locks = numbered (codes "L") LOCKS; vars = numbered (codes "X") VARS }
+drawn_names = record { threads = letter_names (codes "T") THREADS; locks = letter_names (codes "L") LOCKS; vars = letter_names (codes "X") VARS }
 
 -- the letter in the name of what an operation is on
 abbrev pub operand_letter : Op → List ℕ

@@ -34,9 +34,9 @@ pub(crate) struct Drawing {
 }
 
 impl Model for Drawing {
-    ghost use Rattle.drawn_trace.specs.Drawn.{State};
+    ghost use Rattle.drawn_trace.specs.Drawn.{DrawingState};
 
-    ghost Value = { State };
+    ghost Value = { DrawingState };
 
     ghost view = { λ d. record { generator = d.generator; held = d.held; place = d.place } };
 }

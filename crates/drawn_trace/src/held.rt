@@ -1,7 +1,7 @@
 //! What a thread holds, and what it does in a turn.
 
 ghost use Rattle.std.specs.Prelude.{◌≡◌};
-ghost use Rattle.drawn_trace.specs.Drawn.{acquire_or_release, choose, has, locks_after, is_free, may_take, release_or, with_lock, without_last};
+ghost use Rattle.drawn_trace.specs.Drawn.{acquire_or_release, choose, holds_lock, locks_after, is_free, may_acquire, release_or, with_last, without_last};
 
 use crate::numbers::{LOCKS, lock_of, var_of};
 use sp_base::LockId;
@@ -20,8 +20,8 @@ pub(crate) enum Held {
 
 impl Held {
     // Whether the lock is one of them.
-    fn has(&self, lock: LockId) -> bool
-        ensures { result ≡ has self.now lock }
+    fn holds_lock(&self, lock: LockId) -> bool
+        ensures { result ≡ holds_lock self.now lock }
     {
         match self {
             Held::Nothing => false,
@@ -33,8 +33,8 @@ impl Held {
     }
 
     // Whether a thread that holds these locks takes the lock of a word, where that one is free.
-    fn may_take(&self, word: u32) -> bool
-        ensures { result ≡ may_take self.now word }
+    fn may_acquire(&self, word: u32) -> bool
+        ensures { result ≡ may_acquire self.now word }
     {
         match self {
             Held::Nothing => true,
@@ -67,7 +67,7 @@ impl Held {
 
     // The locks with one more that is taken. A thread with two takes none.
     fn with(&self, lock: LockId) -> Held
-        ensures { result ≡ with_lock self.now lock }
+        ensures { result ≡ with_last self.now lock }
     {
         match self {
             Held::Nothing => Held::One(lock),
@@ -91,7 +91,7 @@ impl Held {
 fn is_free(held: &[Held], lock: LockId) -> bool
     ensures { result ≡ is_free held.now lock }
 {
-    !held.iter().any(|locks| locks.has(lock))
+    !held.iter().any(|locks| locks.holds_lock(lock))
 }
 
 // An acquire of the lock of a word, where it may be taken, or a release of the lock that was taken last, or a read.
@@ -99,7 +99,7 @@ fn acquire_or_release(held: &[Held], own: &Held, word: u32) -> Op
     ensures { result ≡ acquire_or_release held.now own.now word }
 {
     let lock = lock_of(word);
-    if is_free(held, lock) && own.may_take(word) {
+    if is_free(held, lock) && own.may_acquire(word) {
         return Op::Acquire(lock);
     }
     own.release_or(Op::Read(var_of(word)))

@@ -3,27 +3,14 @@
 ghost use Rattle.std.specs.Prelude.{◌≡◌, ◌≤◌, ◌++◌, IfOk, codes, length, string_bytes};
 ghost use Rattle.std.specs.Fmt.{decimal};
 ghost use Rattle.trace_laws.specs.Trace.{Lawful};
-ghost use Rattle.std_text.specs.Writing.{IsNamed, event_line, word_of};
+ghost use Rattle.std_text.specs.Writing.{IsNamed, event_line};
 ghost use Rattle.drawn_trace.specs.Drawn.{IsReadable, drawn_events, drawn_names, drawn_text, operand_letter, operand_number};
 
 use crate::drawing::Drawing;
 use sp_base::{MAX_EVENTS, MAX_INPUT, OutOfMemory};
 use std::alloc::Global;
+use std_text::op_word;
 use trace_laws::{Event, Op};
-
-// The word of an operation.
-fn word(op: &Op) -> &'static str
-    ensures { result.now ≡ word_of op.now }
-{
-    match op {
-        Op::Read(_) => "r",
-        Op::Write(_) => "w",
-        Op::Acquire(_) => "acq",
-        Op::Release(_) => "rel",
-        Op::Fork(_) => "fork",
-        Op::Join(_) => "join",
-    }
-}
 
 // The letter in the name of what an operation is on.
 fn letter(op: &Op) -> &'static str
@@ -78,7 +65,7 @@ fn line_of(alloc: Global, event: &Event) -> Result<String, OutOfMemory>
     ensures { IfOk result (λ text. string_bytes text ≡ event_line drawn_names event.now) }
 {
     let op = &event.op;
-    let operation = operation_text(alloc, word(op), letter(op), number(op))?;
+    let operation = operation_text(alloc, op_word(op), letter(op), number(op))?;
     let line = line_text(alloc, event.thread.value(), operation.as_str(), event.loc)?;
     Ok(line)
 }

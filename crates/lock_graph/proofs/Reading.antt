@@ -1,9 +1,9 @@
 -- Reading classes from their entries.
-use Rattle.std.proofs.Common.{◌≡◌, ◌≢◌, ℕ, ◌<◌, Bool, List, [], ◌∷◌, length, map, get_or, Some, refl, sym, ap, subst, ◌∙◌, arith}
+use Rattle.std.proofs.Common.{◌≡◌, ◌≢◌, ℕ, ◌<◌, ◌≤◌, ◌⊎◌, inl, inr, Bool, List, [], ◌∷◌, length, map, get_or, Some, None, refl, sym, ap, subst, ◌∙◌, arith}
 use Rattle.std.specs.Prelude.{slice_get, Contains, ◌↔◌, IsTrue}
 use Rattle.std.specs.Option.{option_map}
 use Rattle.std.proofs.lemmas.List.{length-map}
-use Rattle.std.proofs.lemmas.Option.{slice_get-get_or}
+use Rattle.std.proofs.lemmas.Option.{slice_get-get_or, slice_get_cases}
 use Rattle.trace_laws.specs.Event.{Event}
 use Rattle.trace_laws.specs.Patterns.{Class, IsClass, IsOfClass}
 use Rattle.trace_laws.proofs.Places.{contains_at}
@@ -78,3 +78,11 @@ apart_tells events c d p q r of_c of_d tells = (
 -- what a class has, as it was read
 pub read_is : {Y : Type 0} (f : Class → Y) (classes : List Class) (n : ℕ) (y : Y) (c : Class) → option_map f (slice_get classes n) ≡ Some y → slice_get classes n ≡ Some c → f c ≡ y
 read_is f classes n y c read at = let seen : option_map f (Some c) ≡ Some y = subst (λ o. option_map f o ≡ Some y) at read in cc
+
+-- the class of a number
+pub listed_at : (classes : List Class) (n : ℕ) → n < length classes → (c : Class) × (slice_get classes n ≡ Some c)
+listed_at classes n within = go (slice_get_cases classes n).1
+  where
+    go : ((c : Class) × (n < length classes) × (slice_get classes n ≡ Some c) × (get_or classes n c ≡ c)) ⊎ ((length classes ≤ n) × (slice_get classes n ≡ None)) → (c : Class) × (slice_get classes n ≡ Some c)
+    go (inl found) = (found.0, found.2)
+    go (inr past) = absurd (let out = past.0 in omega arith)

@@ -4,6 +4,8 @@ use Rattle.std.specs.Prelude.{slice_get, Contains, AllPairs}
 use Rattle.std.specs.Option.{option_map}
 use Rattle.std.proofs.lemmas.Option.{slice_get-map, slice_get-get_or}
 use Rattle.trace_laws.specs.Event.{Event}
+use Rattle.trace_laws.specs.Trace.{op_at}
+use Rattle.trace_laws.specs.declared.event.Op.TheVariants.{Acquire}
 use Rattle.trace_laws.specs.Patterns.{Class, IsClass, IsOfClass, first_place}
 use Rattle.trace_laws.proofs.Places.{index_of, contains_at, mapped_from}
 use Rattle.trace_index.specs.HeldSets.{IsAcquire, AreLocksBelow}
@@ -79,3 +81,26 @@ locks_whole events classes bound below are = record {
   where
     of_class : (c : Class) → Contains classes c → IsOfClass events c (first_place c)
     of_class c m = let is = (are.members c).0 m in (is.members (first_place c)).0 (has_first c.acquires is.some)
+
+-- the locks that classes hold are below a number where those that they take are: each lock that is held was taken
+pub held_below : (events : List Event) (classes : List Class) (bound : ℕ) → AreClasses events classes → ((n : ℕ) (c : Class) → slice_get classes n ≡ Some c → c.lock < bound) → HaveLocksBelow classes bound
+held_below events classes bound are below = record {
+  lock = lock;
+  held = λ c l m h. let holds = ((of_class c m).held l).0 h in taken holds.since l holds.acquired.op;
+}
+  where
+    of_class : (c : Class) → Contains classes c → IsOfClass events c (first_place c)
+    of_class c m = let is = (are.members c).0 m in (is.members (first_place c)).0 (has_first c.acquires is.some)
+
+    lock : (c : Class) → Contains classes c → c.lock < bound
+    lock c m = let at = index_of classes c m in below at.0 c at.1
+
+    -- an acquire of the trace takes the lock of its class
+    taken : (a l : ℕ) → op_at events a ≡ Some (Acquire l) → l < bound
+    taken a l op =
+        let found = are.all a (l, op) in
+        let own = (((are.members found.class).0 found.listed).members a).0 found.acquires in
+        let there = own.acquires.op in
+        let same : Acquire found.class.lock ≡ Acquire l = (let both : Some (Acquire found.class.lock) ≡ Some (Acquire l) = sym there ∙ op in cc) in
+        let is : found.class.lock ≡ l = cc in
+        subst (λ (k : ℕ). k < bound) is (lock found.class found.listed)

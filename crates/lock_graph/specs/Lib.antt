@@ -1,3 +1,4 @@
 pub mod Classes
 pub mod Listing
 pub mod Graphs
+pub mod Ranks

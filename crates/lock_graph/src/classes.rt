@@ -1,6 +1,6 @@
 //! The classes of a trace.
 
-ghost use Rattle.std.specs.Prelude.{ℕ, ◌≡◌, ◌<◌, ◌↔◌, length, slice_get, Some, IfOk, IsTrue, Contains};
+ghost use Rattle.std.specs.Prelude.{ℕ, ◌≡◌, ◌<◌, ◌≤◌, ◌↔◌, length, slice_get, Some, IfOk, IsTrue, Contains};
 ghost use Rattle.std.specs.Option.{option_map};
 ghost use Rattle.trace_laws.specs.Traces.{IsTrace};
 ghost use Rattle.trace_laws.specs.Patterns.{Class, IsOfClass, AreApart};
@@ -76,6 +76,18 @@ impl<'a> Classes<'a> {
         ensures { IsTrue result ↔ (length self.now.classes ≡ 0) }
     {
         self.entries.is_empty()
+    }
+
+    /// A number that the locks of the classes are below, and those that they hold: the least one, which is not promised.
+    pub fn locks(&self) -> u32
+        ensures below { HaveLocksBelow self.now.classes result }
+        ensures few { result ≤ MAX_LOCKS }
+    {
+        let mut below = 0;
+        for class in 0..self.len() {
+            below = below.max(self.lock(class).value() + 1);
+        }
+        below
     }
 
     /// The thread of a class, which is below `len`.

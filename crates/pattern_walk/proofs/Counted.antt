@@ -13,7 +13,8 @@ use Rattle.pattern_walk.specs.Listed.{AreListedPatterns, HasMorePatterns}
 use Rattle.pattern_walk.specs.Instances.{IsListedPattern}
 use Rattle.pattern_walk.proofs.Lists.{all_pairs_from, all_pairs_at, map_at, contains_map, contains_mapped, not_longer}
 use Rattle.pattern_walk.proofs.PatternCycles.{cycle_numbers, pattern_from_cycle, cycle_from_pattern}
-use Rattle.pattern_walk.proofs.Preceding.{before_one_way, before_from_precedes}
+use Rattle.trace_laws.proofs.Preceding.{before_one_way}
+use Rattle.pattern_walk.proofs.Preceding.{before_from_precedes}
 
 -- there are not more patterns than in the list of all
 pub not_more : (events : List Event) (size : ℕ) (patterns : List (List Class)) → ArePatterns events size patterns → length patterns ≤ MAX_PATTERNS → HasMorePatterns events size → ⊥

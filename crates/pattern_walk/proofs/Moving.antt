@@ -17,7 +17,7 @@ use Rattle.lock_graph.specs.Classes.{Graph}
 use Rattle.sp_closure.specs.Members.{PlaceSet, has, IsMemberOf, AreCounts}
 use Rattle.sp_closure.proofs.Counts.{count_under}
 use Rattle.pattern_walk.specs.Cycles.{class_of, classes_of}
-use Rattle.pattern_walk.specs.Instances.{IsListedPattern, ArePicksAt, AreInSet, AreAtMost, IsUnderway, HasNoDeadlock, rest_of}
+use Rattle.pattern_walk.specs.Instances.{IsListedPattern, ArePicksAt, AreInSet, IsInitial, AreAtMost, IsUnderway, HasNoDeadlock, rest_of}
 use Rattle.pattern_walk.proofs.Raising.{closure_moves}
 use Rattle.pattern_walk.proofs.Ordering.{read_of}
 use Rattle.pattern_walk.proofs.Picking.{number_at, zip_from, zip_size, in_order, rest_less, class_at_number, acquire_in_trace, other_pick, is_instance, under_deadlock}
@@ -195,6 +195,16 @@ module _ (graph : Graph) (pattern : List ℕ) (is_of : IsListedPattern graph pat
     pub acquires_within : (a : ℕ) → Contains acquires a → a < length cursor.trace.events
     acquires_within a c = subst (λ (h : History). a < length h.events) (sym underway.trace) (acquire_in_trace graph pattern is_of i n a at_n (subst (λ (xs : List ℕ). Contains xs a) (sym is_acquires) c))
 
+    -- the set has with each of them those before it
+    pub initial_read : IsInitial (has cursor.members) acquires
+    initial_read = subst (IsInitial (has cursor.members)) is_acquires initial
+      where
+        of_thread : (a : ℕ) → Contains (class_of graph.classes n).acquires a → thread_at graph.trace.events a ≡ Some (class_of graph.classes n).thread
+        of_thread a c = (((class_at_number graph pattern is_of i n at_n).members a).0 c).acquires.thread
+
+        initial : IsInitial (has cursor.members) (class_of graph.classes n).acquires
+        initial j m a b less at_a at_b member = underway.closure.closed.program a b (Before.same_thread (class_of graph.classes n).thread ((class_at_number graph pattern is_of i n at_n).order j m a b less at_a at_b) (of_thread a (contains_at (class_of graph.classes n).acquires j a at_a)) (of_thread b (contains_at (class_of graph.classes n).acquires m b at_b))) member
+
     -- where all from the position on are in the set there is no deadlock
     pub none_read : AreInSet (has cursor.members) acquires k (length acquires) → HasNoDeadlock graph.trace.events (classes_of graph.classes pattern)
     none_read all = none_left graph pattern is_of positions picks cursor underway i n k (slice_index picks i) at_n at_k at_p (subst (λ (xs : List ℕ). AreInSet (has cursor.members) xs k (length xs)) (sym is_acquires) all)
@@ -217,17 +227,17 @@ module _ (graph : Graph) (pattern : List ℕ) (is_of : IsListedPattern graph pat
       pub moves_read : (more : PlaceSet) → more.trace ≡ cursor.trace → IsClosure cursor.trace.events (λ j. IsTrue (has cursor.members j) ⊎ Before cursor.trace.events j (slice_index acquires m)) (has more.members) → IsUnderway graph pattern (slice_set positions i m) (slice_set picks i (slice_index acquires m)) more
       moves_read = moves graph pattern is_of positions picks cursor underway i n k (slice_index picks i) at_n at_k at_p m (slice_index acquires m) at_q from passed_class inside outside
 
--- acquires from a position on are in a set, and one more
-pub in_set_more : (set : ℕ → Bool) (acquires : List ℕ) (from k a : ℕ) → AreInSet set acquires from k → slice_get acquires k ≡ Some a → set a ≡ true → AreInSet set acquires from (k + 1)
-in_set_more set acquires from k a old at is m b after less at_b = go (cases_eq m k)
+-- a set that has an acquire has those from a position on up to it
+pub in_set_to : (set : ℕ → Bool) (acquires : List ℕ) (from m a : ℕ) → IsInitial set acquires → slice_get acquires m ≡ Some a → set a ≡ true → AreInSet set acquires from (m + 1)
+in_set_to set acquires from m a initial at is k b after less at_b = go (cases_eq k m)
   where
-    go : (m ≡ k) ⊎ (m ≢ k) → IsTrue (set b)
+    go : (k ≡ m) ⊎ (k ≢ m) → IsTrue (set b)
     go (inl same) =
-        let there : slice_get acquires k ≡ Some b = subst (λ (i : ℕ). slice_get acquires i ≡ Some b) same at_b in
+        let there : slice_get acquires m ≡ Some b = subst (λ (i : ℕ). slice_get acquires i ≡ Some b) same at_b in
         let own = at in
         let one : a ≡ b = cc in
         subst (λ (i : ℕ). set i ≡ true) one is
-    go (inr other) = old m b after (omega (arith, other)) at_b
+    go (inr other) = initial k m b a (omega (arith, other)) at_b at is
 
 -- the first picks are not in a set, and one more
 pub outside_more : (set : ℕ → Bool) (picks : List ℕ) (k a : ℕ) → ((m b : ℕ) → m < k → slice_get picks m ≡ Some b → set b ≡ false) → slice_get picks k ≡ Some a → set a ≡ false → (m b : ℕ) → m < k + 1 → slice_get picks m ≡ Some b → set b ≡ false

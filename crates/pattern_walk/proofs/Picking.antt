@@ -16,7 +16,7 @@ use Rattle.lock_graph.specs.Classes.{Graph}
 use Rattle.pattern_walk.specs.Cycles.{class_of, classes_of}
 use Rattle.pattern_walk.specs.Instances.{IsListedPattern, ArePicksAt, AreFirstPositions, AreAtMost, rest_of}
 use Rattle.pattern_walk.proofs.Lists.{all_at, map_at, at_map}
-use Rattle.pattern_walk.proofs.Raising.{closure_grows}
+use Rattle.trace_laws.proofs.Least.{closure_grows}
 
 -- lists of one length whose elements match in each position
 pub zip_from : {A B : Type 0} (R : A → B → Type 0) (xs : List A) (ys : List B) → length xs ≡ length ys → ((i : ℕ) (x : A) (y : B) → slice_get xs i ≡ Some x → slice_get ys i ≡ Some y → R x y) → AllZip R xs ys

@@ -62,11 +62,3 @@ closure_moves trace picks i p q set more old at later raised = record {
                 let is : pick ≡ p = cc in
                 closed.program k p (subst (Before trace k) is before) (holds p (record { pick = q; is_pick = new; before = later }))
             go (inr differs) = holds k (record { pick = pick; is_pick = contains_at (slice_set picks i q) found.0 pick (slice_get-set_other picks i found.0 q differs ∙ found.1); before = before })
-
--- the closure before picks is in each closed set that has all places before others that they are at or before
-pub closure_grows : (trace : List Event) (picks others : List ℕ) (set other : ℕ → Bool) → ((p : ℕ) → Contains picks p → (o : ℕ) × Contains others o × ((p ≡ o) ⊎ Before trace p o)) → IsClosureBefore trace picks set → IsClosureBefore trace others other → (i : ℕ) → IsTrue (set i) → IsTrue (other i)
-closure_grows trace picks others set other under small large i member = small.least other large.closed (λ k h. let u = under h.pick h.is_pick in place k h.pick u.0 h.before u.1 u.2) i member
-  where
-    place : (k p o : ℕ) → Before trace k p → Contains others o → (p ≡ o) ⊎ Before trace p o → IsTrue (other k)
-    place k p o before c (inl same) = large.all k (record { pick = o; is_pick = c; before = subst (Before trace k) same before })
-    place k p o before c (inr after) = large.closed.program k p before (large.all p (record { pick = o; is_pick = c; before = after }))

@@ -40,6 +40,10 @@ AreFirstPositions positions = (i k : ℕ) → slice_get positions i ≡ Some k �
 abbrev pub AreInSet : (ℕ → Bool) → List ℕ → ℕ → ℕ → Type 0
 AreInSet set acquires from to = (k a : ℕ) → from ≤ k → k < to → slice_get acquires k ≡ Some a → IsTrue (set a)
 
+-- the set has with each acquire of the list those that stand before it
+abbrev pub IsInitial : (ℕ → Bool) → List ℕ → Type 0
+IsInitial set acquires = (j k a b : ℕ) → j < k → slice_get acquires j ≡ Some a → slice_get acquires k ≡ Some b → IsTrue (set b) → IsTrue (set a)
+
 -- each place of a list is at most the one at the same place of the other
 abbrev pub AreAtMost : List ℕ → List ℕ → Type 0
 AreAtMost least others = (i p o : ℕ) → slice_get least i ≡ Some p → slice_get others i ≡ Some o → p ≤ o

@@ -40,7 +40,7 @@ fn settle(
 /// The least deadlock of a pattern with its keep, or none exactly where no instance of the pattern is a deadlock. The
 /// pattern is of a list made from the classes, and the cursor is of their trace.
 ///
-/// The cursor is emptied first, and then grows: each acquire is tried once. The only error is want of memory.
+/// The cursor is emptied first, and then grows, and no pick goes back. The only error is want of memory.
 pub fn check(
     alloc: Global,
     pattern: &Pattern,

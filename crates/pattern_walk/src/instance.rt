@@ -1,39 +1,24 @@
 // An instance of a pattern that moves on to later acquires.
-ghost use Rattle.std.specs.Prelude.{ℕ, ◌≡◌, ◌<◌, ◌≤◌, length, slice_index, Some, Contains, IfNone, IfSome, IfOk, IsTrue, true, false};
+ghost use Rattle.std.specs.Prelude.{ℕ, ◌≡◌, ◌<◌, length, slice_index, Some, Contains, IfNone, IfSome, IfOk, IsTrue, true};
 ghost use Rattle.std.specs.Bool.{IsFalse};
 ghost use Rattle.trace_laws.specs.Closed.{IsClosureBefore, AreOutside};
 ghost use Rattle.sp_closure.specs.Members.{has};
 ghost use Rattle.pattern_walk.specs.Cycles.{classes_of};
-ghost use Rattle.pattern_walk.specs.Instances.{IsListedPattern, ArePicksAt, AreInSet, IsUnderway, HasNoDeadlock, AreFirstPositions, rest_of};
+ghost use Rattle.pattern_walk.specs.Instances.{IsListedPattern, ArePicksAt, IsUnderway, HasNoDeadlock, AreFirstPositions, rest_of};
 
+use crate::gallop::first_outside;
 use crate::patterns::Pattern;
 use lock_graph::Classes;
-use sp_base::OutOfMemory;
+use sp_base::{OutOfMemory, Steps};
 use sp_closure::Cursor;
 use std::alloc::Global;
+use std::marker::Brand;
 
 /// An instance of a pattern: for each class its pick, and the pick's position among the acquires of the class.
 #[derive(Drop)]
 pub struct Instance {
     positions: Vec<usize>,
     pub picks: Vec<u32>,
-}
-
-// The position of the first acquire from one on that is not in the set of the cursor.
-fn first_outside(acquires: &[u32], cursor: &Cursor<'_>, from: usize) -> Option<usize>
-    requires { (a : ℕ) → Contains acquires.now a → a < length cursor.now.trace.events }
-    ensures none { IfNone result (AreInSet (has cursor.now.members) acquires.now from (length acquires.now)) }
-    ensures passed { IfSome result (λ k. AreInSet (has cursor.now.members) acquires.now from k) }
-    ensures position { IfSome result (λ k. k < length acquires.now) }
-    ensures from { IfSome result (λ k. from ≤ k) }
-    ensures outside { IfSome result (λ k. has cursor.now.members (slice_index acquires.now k) ≡ false) }
-{
-    for position in from..acquires.len() {
-        if !cursor.has(acquires[position]) {
-            return Some(position);
-        }
-    }
-    None
 }
 
 impl Instance {
@@ -70,9 +55,10 @@ impl Instance {
         ensures trace { cursor.new.trace ≡ cursor.old.trace }
         ensures closure { IsClosureBefore cursor.old.trace.events self.now.picks.items (has cursor.new.members) }
     {
+        let mut steps = Steps::<Brand>::new();
         cursor.reset();
         for &pick in &self.picks {
-            cursor.raise(pick);
+            cursor.raise(pick, &mut steps);
         }
     }
 
@@ -116,7 +102,8 @@ impl Instance {
         let pick = acquires[position];
         self.positions[i] = position;
         self.picks[i] = pick;
-        cursor.raise(pick);
+        let mut steps = Steps::<Brand>::new();
+        cursor.raise(pick, &mut steps);
         true
     }
 }

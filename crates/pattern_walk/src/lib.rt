@@ -8,6 +8,7 @@
 #![tactic(auto)]
 
 mod checking;
+mod gallop;
 mod instance;
 mod near;
 mod order;

@@ -4,8 +4,7 @@ use Rattle.std.specs.Prelude.{Contains, All}
 use Rattle.std.proofs.lemmas.List.{map-append}
 use Rattle.std.proofs.lemmas.List.Elements.{All-nil, All-push, Contains-push, Contains-append_left}
 use Rattle.trace_laws.specs.Findings.{FoundRace, IsFoundRace, by_reorderings}
-use Rattle.trace_laws.proofs.Places.{three_way}
-use Rattle.trace_index.proofs.Accessing.{access_within}
+use Rattle.trace_laws.proofs.Places.{access_within, three_way}
 use Rattle.race_scan.specs.Scans.{Scan, IsInRange, RacesInRange, NoRaceBetween, IsNextRace}
 use Rattle.predictor.specs.Searches.{AreRacesIn}
 

@@ -1,17 +1,19 @@
 // Where a search is cut into jobs. How it is cut has no part in what is found, and does not depend on the number of workers.
-ghost use Rattle.std.specs.Prelude.{◌≡◌, ◌≤◌, ◌+◌, ◌-◌, ◌*◌, ◌++◌, [], ◌∷◌, length, IfOk, OnOk};
+ghost use Rattle.std.specs.Prelude.{ℕ, ◌≡◌, ◌<◌, ◌≤◌, ◌+◌, ◌-◌, ◌*◌, ◌++◌, [], ◌∷◌, length, Contains, IfOk, OnOk};
 ghost use Rattle.sp_base.specs.declared.limits.TheConstants.{MAX_VARS, MAX_PATTERNS};
 ghost use Rattle.predictor.specs.declared.cut.TheConstants.{MAX_RANGES};
 ghost use Rattle.predictor.specs.Borders.{Rise, AreBorders, AreOfOneSort, MayEndWith, VariablesComeFirst, border, EndAt};
 
-use sp_base::{MAX_PATTERNS, MAX_VARS, OutOfMemory, VarId};
+use sp_base::{MAX_PATTERNS, MAX_THREADS, MAX_VARS, OutOfMemory, VarId};
 use std::alloc::Global;
 use trace_index::Index;
+use trace_laws::Trace;
 
 /// The most ranges of variables, and the most ranges of patterns.
 pub const MAX_RANGES: u32 = 32;
 
-/// Into how many shares the accesses are divided. A range of variables has at most one share, or is one variable alone.
+/// Into how many shares the cost of all variables is divided. A range of variables has at most one share, or is one variable
+/// alone.
 const SHARES: u64 = 16;
 
 /// A border between two jobs: the number of the first variable behind it, and that of the first pattern.
@@ -21,21 +23,38 @@ pub struct Border {
     pub pattern: u32,
 }
 
-// How many accesses a variable has.
-fn accesses_of(index: &Index<'_>, variable: u32) -> u64 {
-    match VarId::new(variable) {
-        Some(var) => index.accesses(var).len() as u64,
-        None => 0,
+// By how many threads there are places of the list.
+fn threads_at(trace: &Trace, places: &[u32]) -> u64
+    requires { (p : ℕ) → Contains places.now p → p < length trace.now.events }
+{
+    let mut seen = [false; MAX_THREADS as usize];
+    let mut threads: u64 = 0;
+    for &place in places {
+        let thread = trace.event(place).thread.value() as usize;
+        if !seen[thread] {
+            seen[thread] = true;
+            threads = threads.saturating_add(1);
+        }
     }
+    threads
 }
 
-// How many accesses a range of variables has at most, where it has more than one variable.
+// What the search of a variable costs, about: each of its accesses is held against those of each thread.
+fn cost_of(index: &Index<'_>, variable: u32) -> u64 {
+    let Some(var) = VarId::new(variable) else {
+        return 0;
+    };
+    let places = index.accesses(var);
+    threads_at(index.trace(), places).saturating_mul(places.len() as u64)
+}
+
+// What a range of variables costs at most, where it has more than one variable.
 fn share_of(index: &Index<'_>) -> u64 {
-    let mut accesses: u64 = 0;
+    let mut cost: u64 = 0;
     for variable in 0..MAX_VARS {
-        accesses = accesses.saturating_add(accesses_of(index, variable));
+        cost = cost.saturating_add(cost_of(index, variable));
     }
-    accesses.div_ceil(SHARES)
+    cost.div_ceil(SHARES)
 }
 
 // Adds a border.
@@ -84,21 +103,14 @@ fn cut_variables(alloc: Global, index: &Index<'_>) -> Result<Vec<Border>, OutOfM
     let share = share_of(index);
     let mut borders = Vec::new(alloc);
     add(&mut borders, 0, 0)?;
-    let mut accesses = 0;
+    let mut cost = 0;
     for variable in 0..MAX_VARS {
         let border = Border {
             variable,
             pattern: 0,
         };
-        let more = accesses_of(index, variable);
-        accesses = add_before(
-            &mut borders,
-            border,
-            MAX_RANGES as usize,
-            accesses,
-            more,
-            share,
-        )?;
+        let more = cost_of(index, variable);
+        cost = add_before(&mut borders, border, MAX_RANGES as usize, cost, more, share)?;
     }
     add(&mut borders, MAX_VARS, 0)?;
     Ok(borders)

@@ -9,7 +9,9 @@ ghost use Rattle.race_scan.specs.Passed.{ArePassed, AreReady, IsHead, IsEarliest
 
 use crate::groups::Group;
 use crate::passing::{pass_all, pass_tried};
+use sp_base::Steps;
 use sp_closure::Cursor;
+use std::marker::Brand;
 use trace_index::Index;
 
 // A place of a group.
@@ -61,9 +63,10 @@ pub fn raise_pair(cursor: &mut Cursor<'_>, first: u32, second: u32)
     ensures trace { cursor.new.trace ≡ cursor.old.trace }
     ensures closure { IsClosureBefore cursor.old.trace.events (first ∷ second ∷ []) (has cursor.new.members) }
 {
+    let mut steps = Steps::<Brand>::new();
     cursor.reset();
-    cursor.raise(first);
-    cursor.raise(second);
+    cursor.raise(first, &mut steps);
+    cursor.raise(second, &mut steps);
 }
 
 // The earliest place that the later place races with, of those that are not passed. The earliest of these is tried; where

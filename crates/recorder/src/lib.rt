@@ -8,16 +8,20 @@
 
 mod board;
 #[cfg(test)]
-mod board_trials;
+mod board_tests;
 mod call;
 #[cfg(test)]
-mod call_trials;
+mod call_tests;
 #[cfg(test)]
-mod gate_trials;
+mod gate_tests;
+#[cfg(test)]
+mod inside_tests;
 mod manager;
 mod pass;
 #[cfg(test)]
-mod record_trials;
+mod record_tests;
+#[cfg(test)]
+mod refused_tests;
 mod seats;
 mod steps;
 mod workers;

@@ -1,9 +1,9 @@
 -- Keeping the first events of each thread, place by place.
-use Rattle.std.proofs.Common.{◌≡◌, ◌≢◌, ℕ, zero, suc, ◌+◌, ◌-◌, ◌<◌, ◌≤◌, List, [], ◌∷◌, ◌++◌, length, take, cond, get_or, Option, Some, ◌⊎◌, inl, inr, refl, sym, ap, subst, ◌∙◌, arith}
-use Rattle.std.specs.Prelude.{Contains, sum, count_by, ◌↔◌, ◌==◌, slice_get, slice_set, slice_index, unwrap_or}
+use Rattle.std.proofs.Common.{◌≡◌, ◌≢◌, ℕ, zero, suc, ◌+◌, ◌-◌, ◌<◌, ◌≤◌, List, [], ◌∷◌, ◌++◌, length, take, cond, get_or, Some, ◌⊎◌, inl, inr, refl, sym, ap, subst, ◌∙◌, arith}
+use Rattle.std.specs.Prelude.{Contains, sum, count_by, ◌↔◌, ◌==◌, slice_get, slice_set, slice_index}
 use Rattle.std.proofs.Math.ListN.{length-set}
 use Rattle.std.proofs.lemmas.Bool.{cases_eq, cases_lt}
-use Rattle.std.proofs.lemmas.Option.{slice_get_within, get_or_from_slice_get, unwrap_or-slice_get}
+use Rattle.std.proofs.lemmas.Option.{slice_get_within, get_or_from_slice_get}
 use Rattle.std.proofs.lemmas.List.{get_or_past}
 use Rattle.std.proofs.lemmas.List.Sums.{sum_by-set, sum_by-take-le}
 use Rattle.std.proofs.lemmas.List.Elements.{Contains-push, Contains-push_cases, Contains-append_left}
@@ -11,7 +11,7 @@ use Rattle.trace_laws.specs.Event.{Event}
 use Rattle.trace_laws.specs.Trace.{thread_at}
 use Rattle.trace_laws.specs.Reordering.{Rises}
 use Rattle.trace_laws.specs.Kept.{count_of, local_of, IsKept, AreKept}
-use Rattle.trace_laws.proofs.Places.{contains_none, within_from_thread, false_unless}
+use Rattle.trace_laws.proofs.Places.{within_from_thread, false_unless}
 use Rattle.trace_laws.proofs.Enabling.{Rises-push}
 use Rattle.trace_laws.proofs.Counting.{one_if, tally}
 use Rattle.trace_laws.proofs.Growing.{slice_get-set_same, slice_get-set_other}

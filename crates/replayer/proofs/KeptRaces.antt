@@ -1,5 +1,5 @@
 -- The replay of a race along its kept events.
-use Rattle.std.proofs.Common.{◌≡◌, ◌<◌, ℕ, zero, suc, List, [], ◌∷◌, All, length, Some, slice_get, sym, ◌∙◌, subst, arith}
+use Rattle.std.proofs.Common.{◌≡◌, ◌<◌, ℕ, zero, suc, List, [], ◌∷◌, All, length, sym, ◌∙◌, subst, arith}
 use Rattle.trace_laws.specs.Event.{Event}
 use Rattle.trace_laws.specs.Traces.{History}
 use Rattle.trace_laws.specs.Kept.{AreKept}

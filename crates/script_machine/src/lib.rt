@@ -3,8 +3,6 @@
 //! no thread of the system, no lock, and no search.
 #![tactic(auto)]
 
-#[cfg(test)]
-mod by_hand;
 mod fault;
 mod flatten;
 mod forks;
@@ -13,21 +11,23 @@ mod instruction;
 pub mod laws;
 mod lines;
 mod machine;
-#[cfg(test)]
-mod of_trials;
 mod read;
 #[cfg(test)]
-mod read_trials;
+mod read_tests;
 mod ready;
 mod recording;
+#[cfg(test)]
+mod recording_tests;
 mod resolved;
 mod run;
+#[cfg(test)]
+mod run_tests;
 mod script;
+#[cfg(test)]
+mod step_tests;
 mod tables;
 mod text;
 mod thread_run;
-#[cfg(test)]
-mod trials;
 mod whole;
 
 pub use fault::{ScriptError, ScriptFault, ScriptKind};

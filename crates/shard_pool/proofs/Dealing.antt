@@ -1,5 +1,5 @@
 -- Answers that are dealt out to workers and put together again.
-use Rattle.std.proofs.Common.{◌≡◌, ◌≢◌, ℕ, zero, suc, ◌+◌, ◌-◌, ◌*◌, ◌/◌, ◌%◌, ◌<◌, ◌≤◌, List, [], ◌∷◌, ◌++◌, length, get_or, map, Some, Ok, Err, IfOk, ◌⊎◌, inl, inr, refl, sym, ap, subst, ◌∙◌, arith, length-append}
+use Rattle.std.proofs.Common.{◌≡◌, ◌≢◌, ℕ, suc, ◌+◌, ◌-◌, ◌*◌, ◌/◌, ◌%◌, ◌<◌, ◌≤◌, List, [], ◌∷◌, ◌++◌, length, get_or, map, Some, Ok, Err, IfOk, ◌⊎◌, inl, inr, refl, sym, ap, subst, ◌∙◌, arith, length-append}
 use Rattle.std.specs.Prelude.{Vec, Result, slice_get, slice_set}
 use Rattle.std.specs.Option.{option_map}
 use Rattle.std.specs.Global.{Global}
@@ -10,38 +10,10 @@ use Rattle.std.proofs.lemmas.Nat.{mod-mul-add, div-add-mod'}
 use Rattle.std.proofs.lemmas.Bool.{cases_eq, cases_lt}
 use Rattle.std.proofs.lemmas.Option.{slice_get_within, slice_get-get_or, slice_get-map, get_or_from_slice_get}
 use Rattle.std.proofs.lemmas.List.{length-map}
+use Rattle.sp_base.proofs.Items.{get_set, get_push, get_front, get_last}
 use Rattle.shard_pool.specs.Shares.{AreAnswers, IsShare, AreShares}
 
--- what stands in a list where one element was set
-get_set : {X : Type 0} (xs : List X) (i j : ℕ) (x y : X) → slice_get (slice_set xs i x) j ≡ Some y → ((j ≡ i) × (x ≡ y)) ⊎ ((j ≢ i) × (slice_get xs j ≡ Some y))
-get_set [] i j x y at = absurd (cc)
-get_set (z ∷ zs) zero zero x y at = inl (refl, cc)
-get_set (z ∷ zs) zero (suc j) x y at = inr ((λ same. omega arith), at)
-get_set (z ∷ zs) (suc i) zero x y at = inr ((λ same. omega arith), at)
-get_set (z ∷ zs) (suc i) (suc j) x y at = elim (get_set zs i j x y at) [
-  | inl here ↦ inl ((let same = here.0 in omega arith), here.1)
-  | inr else ↦ inr ((λ same. else.0 (omega arith)), else.1)
-]
-
 module _ {A : Type 0} where
-  -- what stands in a list with one element more
-  get_push : (xs : List A) (x y : A) (k : ℕ) → slice_get (xs ++ x ∷ []) k ≡ Some y → (slice_get xs k ≡ Some y) ⊎ ((k ≡ length xs) × (x ≡ y))
-  get_push [] x y zero at = inr (refl, cc)
-  get_push [] x y (suc k) at = absurd (cc)
-  get_push (z ∷ zs) x y zero at = inl at
-  get_push (z ∷ zs) x y (suc k) at = elim (get_push zs x y k at) [ inl else ↦ inl else | inr here ↦ inr ((let last = here.0 in omega arith), here.1) ]
-
-  -- an element stands where it stood, though one more follows
-  get_front : (xs : List A) (x y : A) (k : ℕ) → slice_get xs k ≡ Some y → slice_get (xs ++ x ∷ []) k ≡ Some y
-  get_front [] x y k at = absurd (cc)
-  get_front (z ∷ zs) x y zero at = at
-  get_front (z ∷ zs) x y (suc k) at = get_front zs x y k at
-
-  -- the last element stands behind the others
-  get_last : (xs : List A) (x : A) → slice_get (xs ++ x ∷ []) (length xs) ≡ Some x
-  get_last [] x = refl
-  get_last (z ∷ zs) x = get_last zs x
-
   -- one answer more
   pub answers_push : (answers : ℕ → A → Type 0) (xs : List A) (x : A) → AreAnswers answers xs → answers (length xs) x → AreAnswers answers (xs ++ x ∷ [])
   answers_push answers xs x before new k y at =

@@ -1,25 +1,31 @@
 //! A closed set of places that grows.
 
-ghost use Rattle.std.specs.Prelude.{ℕ, ◌≡◌, ◌<◌, ◌⊎◌, IsTrue, IfOk, length};
+ghost use Rattle.std.specs.Prelude.{ℕ, ◌≡◌, ◌<◌, ◌≤◌, ◌+◌, ◌⊎◌, IsTrue, IfOk, length};
 ghost use Rattle.trace_laws.specs.Trace.{Before};
 ghost use Rattle.trace_laws.specs.Closed.{ClosedSet, IsClosure};
 ghost use Rattle.closed_fronts.specs.Cuts.{flags_of};
 ghost use Rattle.closed_fronts.specs.Rows.{IsSteady};
-ghost use Rattle.sp_closure.specs.Members.{has, AreCounts, IsEmpty};
+ghost use Rattle.sp_closure.specs.Members.{has, AreCounts, IsEmpty, IsAtMostSections};
 
+use crate::mending::grow;
 use closed_fronts::Fronts;
-use sp_base::OutOfMemory;
+use sp_base::{OutOfMemory, Steps};
 use std::alloc::{AllocError, Global};
-use std::marker::Model;
+use std::marker::{Brand, Model};
+use std::sync::ledger::Ledger;
 use trace_index::Index;
 
-/// A closed set of places of a trace, and how many members each thread has. Growing it to a place takes about as many
-/// steps as the trace has threads, and as many again for each section whose end it has to take in.
+/// A closed set of places of a trace, and how many members each thread has. To grow it to a place takes time in proportion
+/// to the threads of the trace, and as much again for each section whose end it has to take in. Each such section is asked
+/// of the index.
+///
+/// Contracts see the trace, the set, and how often a section was asked since the set was last empty.
 #[derive(Drop)]
 pub struct Cursor<'a> {
-    fronts: &'a Fronts<'a>,
+    index: &'a Index<'a>,
     cuts: Vec<u32>,
     counts: Vec<u32>,
+    asked: Steps<Brand>,
 }
 
 impl<'a> Model for Cursor<'a> {
@@ -51,37 +57,44 @@ impl<'a> Cursor<'a> {
         ensures trace { IfOk result (λ cursor. cursor.trace ≡ index.now) }
         ensures empty { IfOk result (λ cursor. IsEmpty cursor.members) }
         ensures closed { IfOk result (λ cursor. ClosedSet cursor.trace.events (has cursor.members)) }
+        ensures asked { IfOk result (λ cursor. cursor.asked ≡ 0) }
     {
-        match Cursor::with_room(alloc, index.fronts()) {
+        match Cursor::with_room(alloc, index) {
             Ok(cursor) => Ok(cursor),
             Err(_) => Err(OutOfMemory),
         }
     }
 
     // The same, with the error of the allocator.
-    fn with_room(alloc: Global, fronts: &'a Fronts<'a>) -> Result<Cursor<'a>, AllocError>
-        ensures trace { IfOk result (λ cursor. cursor.trace ≡ fronts.now) }
+    fn with_room(alloc: Global, index: &'a Index<'a>) -> Result<Cursor<'a>, AllocError>
+        ensures trace { IfOk result (λ cursor. cursor.trace ≡ index.now) }
         ensures empty { IfOk result (λ cursor. IsEmpty cursor.members) }
         ensures closed { IfOk result (λ cursor. ClosedSet cursor.trace.events (has cursor.members)) }
+        ensures asked { IfOk result (λ cursor. cursor.asked ≡ 0) }
     {
-        let threads = fronts.threads() as usize;
+        let threads = index.fronts().threads() as usize;
         let cuts = vec![in alloc; 0; threads]?;
         let counts = vec![in alloc; 0; threads]?;
         Ok(Cursor {
-            fronts,
+            index,
             cuts,
             counts,
+            asked: Steps::new(),
         })
     }
 
-    /// The set becomes the least closed set that holds it and all places before the place in program order.
-    pub fn raise(&mut self, place: u32)
+    /// The set becomes the least closed set that holds it and all places before the place in program order. It is one step,
+    /// and one more for each section that is asked. No section is asked twice until the set is empty again.
+    pub fn raise<L: Ledger>(&mut self, place: u32, steps: &mut Steps<L>)
         requires { place < length self.old.trace.events }
         ensures trace { self.new.trace ≡ self.old.trace }
         ensures closure { IsClosure self.old.trace.events (λ i. IsTrue (has self.old.members i) ⊎ Before self.old.trace.events i place) (has self.new.members) }
+        ensures rises { self.old.asked ≤ self.new.asked }
+        ensures few { IsAtMostSections self.new.trace.events self.new.asked }
+        ensures steps { steps.new + self.old.asked ≡ steps.old + self.new.asked + 1 }
     {
-        self.fronts.raise(&mut self.cuts, place);
-        count_all(self.fronts, &self.cuts, &mut self.counts);
+        grow(self.index, &mut self.cuts, place, &mut self.asked, steps);
+        count_all(self.index.fronts(), &self.cuts, &mut self.counts);
     }
 
     /// Whether the place is in the set.
@@ -89,7 +102,7 @@ impl<'a> Cursor<'a> {
         requires { place < length self.now.trace.events }
         ensures { result ≡ has self.now.members place }
     {
-        let event = self.fronts.event(place);
+        let event = self.index.fronts().event(place);
         place < self.cuts[event.thread.value() as usize]
     }
 
@@ -105,8 +118,10 @@ impl<'a> Cursor<'a> {
         ensures trace { self.new.trace ≡ self.old.trace }
         ensures empty { IsEmpty self.new.members }
         ensures closed { ClosedSet self.new.trace.events (has self.new.members) }
+        ensures asked { self.new.asked ≡ 0 }
     {
         self.cuts.fill(0);
         self.counts.fill(0);
+        self.asked = Steps::new();
     }
 }

@@ -6,6 +6,7 @@
 #![tactic(auto)]
 
 mod cursor;
+mod mending;
 #[cfg(test)]
 mod tests;
 

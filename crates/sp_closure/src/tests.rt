@@ -3,8 +3,9 @@ ghost use Rattle.std.specs.Prelude.{◌<◌, ◌≡◌};
 ghost use Rattle.trace_laws.specs.Traces.{AreNamedBelow, NamesBelow};
 
 use crate::Cursor;
-use sp_base::{LockId, ThreadId, VarId};
+use sp_base::{LockId, Steps, ThreadId, VarId};
 use std::alloc::Global;
+use std::marker::Brand;
 use std::process::Abort;
 use std::test::Fail;
 use trace_index::Index;
@@ -48,7 +49,8 @@ fn raise(rt: &impl Abort, trace: &Trace, cursor: &mut Cursor<'_>, place: u32, ow
     ensures { cursor.new.trace ≡ trace.now }
 {
     assert!(rt; place < trace.len());
-    cursor.raise(place);
+    let mut steps = Steps::<Brand>::new();
+    cursor.raise(place, &mut steps);
     assert_eq!(rt; cursor.counts(), [own, other].as_slice(), "at {place}");
 }
 

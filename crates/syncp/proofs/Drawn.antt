@@ -7,19 +7,21 @@ use Rattle.trace_laws.specs.Findings.{Found}
 use Rattle.std_text.specs.Framing.{Progress, start, start_with, no_names}
 use Rattle.std_text.specs.Refusal.{LineFault}
 use Rattle.report.specs.Reports.{report_text}
-use Rattle.predictor.specs.Predictions.{ArePredictions}
+use Rattle.predictor.specs.Predictions.{ArePredictions, HasFewPatterns}
 use Rattle.pattern_walk.specs.Listed.{HasMorePatterns}
 use Rattle.drawn_trace.specs.Drawn.{drawn_text, IsReadable}
+use Rattle.intake.specs.declared.fault.IntakeFault.TheVariants as intake
 use Rattle.syncp.specs.declared.outcome.Fault.{Fault}
 use Rattle.syncp.specs.declared.outcome.Fault.TheVariants as fault
 use Rattle.command_words.specs.declared.mode.Mode.TheVariants as mode
 use Rattle.syncp.specs.declared.outcome.Outcome.{Outcome}
 use Rattle.syncp.specs.declared.outcome.Outcome.TheVariants as outcome
 use Rattle.command_words.specs.declared.words.Words.{Words}
-use Rattle.syncp.specs.Faults.{refusal_with}
-use Rattle.syncp.specs.Drawing.{HasFewDrawn, HasManyDrawn, IsBench, IsDrawn, IsDrawnTrace, bench_text}
-use Rattle.syncp.specs.Output.{whole_reading}
-use Rattle.syncp.specs.Replaying.{ReadsTrace}
+use Rattle.intake.specs.Faults.{refusal_with}
+use Rattle.answers.specs.Benches.{bench_text}
+use Rattle.syncp.specs.Drawing.{HasFewDrawn, HasManyDrawn, IsBench, IsDrawn, IsDrawnTrace}
+use Rattle.intake.specs.TraceTexts.{whole_reading}
+use Rattle.intake.specs.Reads.{ReadsTrace}
 use Rattle.syncp.specs.Modes.{IsAccepted, IsRefusedIn}
 use Rattle.syncp.specs.Outcome.{Explains, IsAnswered, Makes}
 use Rattle.syncp.specs.Tasks.{Bench, HasRead, task_in, task_of}
@@ -57,7 +59,7 @@ module _ (seed events : ℕ) (names : NameLists) (text : List ℕ) (none : names
   drawn_read h read = (read.0, subst (λ t. whole_reading start t ≡ Ok read.0) drawn (subst (λ n. whole_reading (start_with n 1) text ≡ Ok read.0) none read.1), read.2)
 
   -- its text is not refused
-  pub never_refused : (f : LineFault) (holder : List ℕ) → IsReadable (drawn_text seed events) → ReadsTrace (whole_reading (start_with names 1) text) (Err (fault.Text f holder)) → ⊥
+  pub never_refused : (f : LineFault) (holder : List ℕ) → IsReadable (drawn_text seed events) → ReadsTrace (whole_reading (start_with names 1) text) (Err (intake.Text f holder)) → ⊥
   never_refused f holder readable refused =
       let here : whole_reading start (drawn_text seed events) ≡ Err (refusal_with f holder) =
       subst (λ t. whole_reading start t ≡ Err (refusal_with f holder)) drawn (subst (λ n. whole_reading (start_with n 1) text ≡ Err (refusal_with f holder)) none refused) in
@@ -65,10 +67,10 @@ module _ (seed events : ℕ) (names : NameLists) (text : List ℕ) (none : names
       cc
 
 -- the lines for the trace of a seed
-pub benched : (size seed events : ℕ) (h : History) (all : Found) (text : List ℕ) → IsDrawnTrace seed events h → ArePredictions h size all → text ≡ bench_text events all (length (report_text h.events all)) → IsBench size seed events text
+pub benched : (size seed events : ℕ) (h : History) (all : Found) (text : List ℕ) → IsDrawnTrace seed events h → ArePredictions h size all → HasFewPatterns h.events size → text ≡ bench_text events all (length (report_text h.events all)) → IsBench size seed events text
 unfolding IsBench
-benched size seed events h all text is are written =
-    (is.0, all, is.1, subst (λ g. ArePredictions g size all) is.2 are, subst (λ g. text ≡ bench_text events all (length (report_text g.events all))) is.2 written)
+benched size seed events h all text is are few written =
+    (is.0, all, is.1, subst (λ g. ArePredictions g size all) is.2 are, subst (λ (g : History). HasFewPatterns g.events size) is.2 few, subst (λ g. text ≡ bench_text events all (length (report_text g.events all))) is.2 written)
 
 -- the trace of a seed has too many patterns
 pub many_drawn : (size seed events : ℕ) (h : History) → IsDrawnTrace seed events h → HasMorePatterns h.events size → HasManyDrawn size seed events

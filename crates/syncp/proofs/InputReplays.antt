@@ -1,6 +1,5 @@
 -- The replays of an input, from its script, its trace and its recording.
-use Rattle.std.proofs.Common.{◌≡◌, ◌≤◌, ℕ, ◌+◌, Bool, List, length, Result, Ok, Err, sym, ap, ◌∙◌, subst}
-use Rattle.std.specs.Prelude.{MatchResult}
+use Rattle.std.proofs.Common.{◌≡◌, ◌≤◌, ℕ, ◌+◌, Bool, List, length, Ok, Err, sym, ap, ◌∙◌, subst}
 use Rattle.sp_base.specs.declared.limits.TheConstants.{MAX_INPUT}
 use Rattle.trace_laws.specs.Findings.{Found}
 use Rattle.trace_laws.specs.Locations.{LocationsDoNotCount}
@@ -11,28 +10,29 @@ use Rattle.script_machine.specs.Held.{meaning}
 use Rattle.script_machine.specs.Machine.{Script}
 use Rattle.script_machine.specs.Recorded.{Recorded}
 use Rattle.script_machine.specs.ScriptText.{Scripts, FirstFault}
+use Rattle.intake.specs.declared.fault.IntakeFault.{IntakeFault}
+use Rattle.intake.specs.declared.fault.IntakeFault.TheVariants as intake
+use Rattle.syncp.specs.Faults.{fault_of}
 use Rattle.syncp.specs.declared.outcome.Fault.{Fault}
 use Rattle.syncp.specs.declared.outcome.Fault.TheVariants as fault
-use Rattle.syncp.specs.Faults.{TellsRefusal}
-use Rattle.syncp.specs.Inputs.{scripts_in, trace_in, trace_line}
+use Rattle.intake.specs.Faults.{TellsRefusal, FailsToScript}
+use Rattle.intake.specs.Inputs.{scripts_in, trace_in, trace_line}
+use Rattle.intake.specs.Lengths.{newlines}
+use Rattle.pattern_walk.specs.Listed.{HasMorePatterns}
 use Rattle.predictor.specs.Predictions.{ArePredictions}
-use Rattle.syncp.specs.Recorded.{newlines}
-use Rattle.syncp.specs.Replayed.{Says, SaysRun, IsReplay, WritesReplays, reading_behind, run_of}
-use Rattle.syncp.specs.Replaying.{FailsToReplay, FailsToScript, Records, ReplaysRun}
-use Rattle.syncp.proofs.Recordings.{leads_to, trace_is_run}
+use Rattle.syncp.specs.Replayed.{Says, SaysRun, SaysManyPatterns, IsReplay, reading_behind}
+use Rattle.syncp.specs.Replaying.{FailsToReplay, Records}
+use Rattle.answers.specs.Replays.{ReplaysRun, WritesReplays, run_of}
+use Rattle.answers.proofs.CompleteRuns.{leads_to, trace_is_run}
 
 -- The size of patterns, the parts of an input, and the number of the trace's first line.
 module _ (size : ℕ) (input scripts trace : List ℕ) (line : ℕ) (few : length input ≤ MAX_INPUT) (scripts_are : scripts ≡ scripts_in input) (trace_is : trace ≡ trace_in input) (line_is : line ≡ newlines scripts + 2) where
   -- a refused script
-  pub script_refused : (f : Fault) → FailsToScript f scripts → FailsToReplay size f input
-  script_refused (fault.Text f holder) fails = absurd fails
-  script_refused (fault.Script f) fails = (few, subst (λ text. FirstFault text f) scripts_are fails)
-  script_refused (fault.NotAStep place) fails = absurd fails
-  script_refused fault.TooManyPatterns fails = absurd fails
-  script_refused fault.NoFinding fails = absurd fails
-  script_refused fault.Read fails = absurd fails
-  script_refused fault.Write fails = absurd fails
-  script_refused fault.OutOfMemory fails = tt
+  pub script_refused : (f : IntakeFault) → FailsToScript f scripts → FailsToReplay size (fault_of f) input
+  script_refused (intake.Text f holder) fails = absurd fails
+  script_refused (intake.Script f) fails = (few, subst (λ text. FirstFault text f) scripts_are fails)
+  script_refused intake.Read fails = absurd fails
+  script_refused intake.OutOfMemory fails = tt
 
   module _ (script : Script) (said : Scripts scripts script) (names : NameLists) (names_are : names ≡ script.names) where
     -- the script of the input
@@ -48,15 +48,11 @@ module _ (size : ℕ) (input scripts trace : List ℕ) (line : ℕ) (few : lengt
     behind = λ i. after (start_with (names_are i) (line_there i)) (trace_is i) >>= closed
 
     -- a refused trace
-    pub trace_refused : (f : Fault) → TellsRefusal (after (start_with names line) trace >>= closed) f → FailsToReplay size f input
-    trace_refused (fault.Text f holder) refused = record { few = few; script = script; scripts = script_said; refused = sym behind ∙ refused }
-    trace_refused (fault.Script f) refused = absurd refused
-    trace_refused (fault.NotAStep place) refused = absurd refused
-    trace_refused fault.TooManyPatterns refused = absurd refused
-    trace_refused fault.NoFinding refused = absurd refused
-    trace_refused fault.Read refused = absurd refused
-    trace_refused fault.Write refused = absurd refused
-    trace_refused fault.OutOfMemory refused = tt
+    pub trace_refused : (f : IntakeFault) → TellsRefusal (after (start_with names line) trace >>= closed) f → FailsToReplay size (fault_of f) input
+    trace_refused (intake.Text f holder) refused = record { few = few; script = script; scripts = script_said; refused = sym behind ∙ refused }
+    trace_refused (intake.Script f) refused = absurd refused
+    trace_refused intake.Read refused = absurd refused
+    trace_refused intake.OutOfMemory refused = tt
 
     module _ (p : Progress) (reads : (after (start_with names line) trace >>= closed) ≡ Ok p) where
       -- what the input says
@@ -102,22 +98,11 @@ module _ (size : ℕ) (input scripts trace : List ℕ) (line : ℕ) (few : lengt
           run = run_said;
           all = replays.0;
           predicted = predicted replays.0 replays.1;
-          replays = subst (λ h. WritesReplays script h replays.0 text) is_run replays.2;
-          found_is = replays.3;
+          few = replays.2;
+          replays = subst (λ h. WritesReplays script h replays.0 text) is_run replays.3;
+          found_is = replays.4;
         }
 
-        -- too many patterns, or want of memory
-        replay_refused : (f : Fault) → ReplaysRun size script r.trace (Err f) → FailsToReplay size f input
-        replay_refused (fault.Text f holder) fails = absurd fails
-        replay_refused (fault.Script f) fails = absurd fails
-        replay_refused (fault.NotAStep place) fails = absurd fails
-        replay_refused fault.TooManyPatterns fails = record { run = run_said; many = fails }
-        replay_refused fault.NoFinding fails = absurd fails
-        replay_refused fault.Read fails = absurd fails
-        replay_refused fault.Write fails = absurd fails
-        replay_refused fault.OutOfMemory fails = tt
-
-        -- the replays, or why there are none
-        pub replays_end : (result : Result (List ℕ × Bool) Fault) → ReplaysRun size script r.trace result → MatchResult result (λ x. IsReplay size input x.0 x.1) (λ f. FailsToReplay size f input)
-        replays_end (Ok x) replays = replayed x.0 x.1 replays
-        replays_end (Err f) replays = replay_refused f replays
+        -- it has too many patterns
+        pub run_has_many : HasMorePatterns r.trace.events size → SaysManyPatterns size input
+        run_has_many many = record { run = run_said; many = many }

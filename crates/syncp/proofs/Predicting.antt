@@ -4,27 +4,28 @@ use Rattle.trace_laws.specs.Names.{NameLists}
 use Rattle.trace_laws.specs.Traces.{History}
 use Rattle.trace_laws.specs.Findings.{Found}
 use Rattle.pattern_walk.specs.Listed.{HasMorePatterns}
-use Rattle.predictor.specs.Predictions.{ArePredictions}
+use Rattle.predictor.specs.Predictions.{ArePredictions, HasFewPatterns}
+use Rattle.intake.specs.declared.fault.IntakeFault.{IntakeFault}
+use Rattle.intake.specs.declared.fault.IntakeFault.TheVariants as intake
 use Rattle.syncp.specs.declared.outcome.Fault.{Fault}
 use Rattle.syncp.specs.declared.outcome.Fault.TheVariants as fault
+use Rattle.syncp.specs.Faults.{fault_of}
 use Rattle.syncp.specs.Modes.{IsPastPatterns}
-use Rattle.syncp.specs.Outcome.{FailsToRead, FailsToReadTrace, IsPredictedFrom, IsReadFrom}
+use Rattle.syncp.specs.Outcome.{FailsToRead, IsPredictedFrom}
+use Rattle.intake.specs.Faults.{FailsToReadTrace}
+use Rattle.intake.specs.Reads.{IsReadFrom}
 use Rattle.syncp.specs.Tasks.{Predict, Witness}
 
 -- the trace, its names and what is predicted from it
-pub predicted : (size : ℕ) (Ended : Type 0) (trace : History) (names : NameLists) (found : Found) (input : List ℕ) → IsReadFrom Ended (Ok (trace, names)) input → ArePredictions trace size found → IsPredictedFrom size input ((trace, names), found)
-predicted size Ended trace names found input is are = (is.0, is.1, is.2, is.3, are)
+pub predicted : (size : ℕ) (Ended : Type 0) (trace : History) (names : NameLists) (found : Found) (input : List ℕ) → IsReadFrom Ended (Ok (trace, names)) input → ArePredictions trace size found → HasFewPatterns trace.events size → IsPredictedFrom size input ((trace, names), found)
+predicted size Ended trace names found input is are few = (is.0, is.1, is.2, is.3, are, few)
 
 -- a fault while a trace was read
-pub not_read : (size : ℕ) (Ended : Type 0) (f : Fault) (input : List ℕ) → FailsToReadTrace Ended f input → FailsToRead (Predict size) Ended f input
-not_read size Ended (fault.Text f holder) input fails = fails
-not_read size Ended (fault.Script f) input fails = absurd fails
-not_read size Ended (fault.NotAStep place) input fails = absurd fails
-not_read size Ended fault.TooManyPatterns input fails = absurd fails
-not_read size Ended fault.NoFinding input fails = absurd fails
-not_read size Ended fault.Read input fails = fails
-not_read size Ended fault.Write input fails = absurd fails
-not_read size Ended fault.OutOfMemory input fails = fails
+pub not_read : (size : ℕ) (Ended : Type 0) (f : IntakeFault) (input : List ℕ) → FailsToReadTrace Ended f input → FailsToRead (Predict size) Ended (fault_of f) input
+not_read size Ended (intake.Text f holder) input fails = fails
+not_read size Ended (intake.Script f) input fails = absurd fails
+not_read size Ended intake.Read input fails = fails
+not_read size Ended intake.OutOfMemory input fails = fails
 
 -- there are too many patterns
 pub too_many : (Ended : Type 0) (size : ℕ) (trace : History) (names : NameLists) (input : List ℕ) → IsReadFrom Ended (Ok (trace, names)) input → HasMorePatterns trace.events size → Ended → IsPastPatterns Ended input size

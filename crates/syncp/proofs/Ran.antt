@@ -7,7 +7,10 @@ use Rattle.sp_base.specs.declared.limits.TheConstants.{MAX_INPUT}
 use Rattle.std_text.specs.Refusal.{Refusal, ◌>>=◌}
 use Rattle.std_text.specs.Framing.{Progress, start, after, closed}
 use Rattle.std_text.proofs.TextPieces.{after_fault}
+use Rattle.trace_laws.specs.Findings.{Found, by_reorderings}
 use Rattle.trace_laws.specs.Locations.{DoTheSame}
+use Rattle.trace_laws.specs.Traces.{History}
+use Rattle.trace_laws.proofs.Determined.{findings_are_determined_lem}
 use Rattle.script_machine.specs.Laws.{ExclusiveLaw, OfLaw}
 use Rattle.script_machine.specs.Machine.{LegalRun}
 use Rattle.script_machine.specs.OfTrace.{IsFirstNoStep}
@@ -18,18 +21,18 @@ use Rattle.syncp.specs.declared.outcome.Fault.TheVariants as fault
 use Rattle.syncp.specs.declared.outcome.Outcome.TheVariants as outcome
 use Rattle.syncp.specs.declared.outcome.Status.{Status}
 use Rattle.syncp.specs.declared.outcome.Status.TheVariants.{NoMemory}
-use Rattle.syncp.specs.Output.{IsStd, IsKnownFault, history_of}
-use Rattle.syncp.specs.Witnesses.{LacksFinding}
-use Rattle.syncp.proofs.Witnessing.{same_count}
+use Rattle.intake.specs.TraceTexts.{IsStd, IsKnownFault, history_of}
+use Rattle.answers.specs.Witnesses.{LacksFinding}
 use Rattle.syncp.specs.Modes.{IsAccepted, IsFrontOf, IsRefusedIn, IsRefusalOf, IsCut, IsPastPatterns}
-use Rattle.syncp.specs.Faults.{refusal_with, fault_line}
+use Rattle.syncp.specs.Faults.{fault_line}
+use Rattle.intake.specs.Faults.{refusal_with}
 use Rattle.syncp.specs.Outcome.{Explains, FailsToRead}
 use Rattle.syncp.specs.Outcome as done
 use Rattle.syncp.specs.Run.{Means, Leaves, TellsOf, TellsLine, IsDone, IsAnswered}
-use Rattle.syncp.specs.Inputs.{scripts_in}
+use Rattle.intake.specs.Inputs.{scripts_in}
 use Rattle.syncp.specs.Replayed.{SaysNoTrace, SaysNoRun, SaysManyPatterns, reading_behind}
 use Rattle.pattern_walk.specs.Listed.{HasMorePatterns}
-use Rattle.predictor.specs.Predictions.{HasFewPatterns}
+use Rattle.predictor.specs.Predictions.{ArePredictions, HasFewPatterns, count_of_findings}
 use Rattle.syncp.specs.Tasks.{Task, Predict, Record, Witness, Replay, Run, Bench, HasRead, task_of}
 use Rattle.syncp.specs.Statuses.{passes_limit, script_passes_limit, refusal_status, status_of}
 
@@ -237,14 +240,10 @@ refusal_answers (Run size) R f status line t (inr (inr cut)) = elim (told_status
   | inr memory ↦ inr (inl memory)
 ]
 
--- a whole output answers the task
-pub whole_answers : (task : Task) (status : Status) → IsDone status → IsAnswered task status
-whole_answers (Predict size) status whole = inl whole
-whole_answers Record status whole = inl whole
-whole_answers (Witness size number) status whole = inl whole
-whole_answers (Replay size) status whole = inl whole
-whole_answers (Run size) status whole = inl whole
-whole_answers (Bench size seed events) status whole = inl whole
+-- what is predicted from a trace up to a size is one list, so that it has one length
+same_count : (h : History) (size : ℕ) (one other : Found) → ArePredictions h size one → ArePredictions h size other → count_of_findings one ≡ count_of_findings other
+unfolding ArePredictions
+same_count h size one other a b = ap count_of_findings (findings_are_determined_lem by_reorderings h.events h.threads size one other a b)
 
 -- a trace text that has the finding is not refused
 pub witness_not_refused : (f : Fault) (size number : ℕ) (new : Option (List ℕ)) (all input : List ℕ) → Consumes (Some all) new input → IsAccepted (Witness size number) all → IsRefusedIn (Witness size number) (IsAtEnd new) f input → ⊥
@@ -253,11 +252,11 @@ witness_not_refused (fault.Script f) size number new all input c std known = kno
 witness_not_refused (fault.NotAStep place) size number new all input c std known = known
 witness_not_refused fault.TooManyPatterns size number new all input c std known = few_patterns new all input size std.0 c std.1 std.2 known
 witness_not_refused fault.NoFinding size number new all input c std known =
-    let same : all ≡ input = taken_all new all input c known.3 in
+    let same : all ≡ input = taken_all new all input c known.4 in
     let there = known.1 in
     let here = std.1 in
     let one : std.0 ≡ known.0 = (let again : (after start input >>= closed) ≡ Ok std.0 = subst (λ text. IsStd text std.0) same here in cc) in
-    let lacks : LacksFinding (history_of std.0) size number = subst (λ p. LacksFinding (history_of p) size number) (sym one) known.2 in
+    let lacks : LacksFinding (history_of std.0) size number = subst (λ p. LacksFinding (history_of p) size number) (sym one) known.3 in
     let counts = same_count (history_of std.0) size std.3.0 lacks.0 std.3.1 lacks.1 in
     omega (arith, counts, std.3.2, lacks.2)
 witness_not_refused fault.Read size number new all input c std known = known

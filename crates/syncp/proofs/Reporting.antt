@@ -1,41 +1,16 @@
 -- The report of what is predicted.
-use Rattle.std.proofs.Common.{◌≡◌, ℕ, List, [], ◌∷◌, get_or, ap, subst}
+use Rattle.std.proofs.Common.{◌≡◌, ℕ, List, ap, subst}
 use Rattle.std.specs.Prelude.{nat_lt}
-use Rattle.std.proofs.lemmas.List.Elements.{Contains-get_or}
-use Rattle.std.proofs.lemmas.Option.{slice_get-get_or}
 use Rattle.trace_laws.specs.Names.{NameLists}
 use Rattle.trace_laws.specs.Traces.{History}
-use Rattle.trace_laws.specs.Patterns.{Class, IsPattern, IsInstance}
-use Rattle.trace_laws.specs.Findings.{Found, FoundRace, FoundDeadlock, IsFoundRace, IsFoundDeadlock, by_reorderings}
-use Rattle.trace_laws.proofs.Enabling.{conflict_within}
-use Rattle.trace_laws.proofs.Judges.{instance_within}
-use Rattle.trace_laws.proofs.Places.{contains_head, contains_tail}
-use Rattle.report.specs.Reports.{AreWithin, IsDeadlockWithin, IsRaceWithin, report_text}
-use Rattle.predictor.specs.Predictions.{ArePredictions, ArePredicted, count_of_findings}
+use Rattle.trace_laws.specs.Findings.{Found}
+use Rattle.report.specs.Reports.{report_text}
+use Rattle.predictor.specs.Predictions.{count_of_findings}
+use Rattle.answers.specs.Reported.{IsReport}
 use Rattle.syncp.specs.Outcome.{IsPredictedFrom}
-use Rattle.syncp.specs.Output.{IsOutput, IsReport}
-use Rattle.syncp.proofs.Witnessing.{pattern_of}
-
--- the places of a race are places of the trace
-race_within : (h : History) (r : FoundRace) → IsFoundRace h.events h.threads (by_reorderings h.events) r → IsRaceWithin h.events r
-race_within h r is =
-    let within = conflict_within h.events r.earlier r.later is.race.conflict in
-    record { later = within r.later (contains_tail r.earlier (r.later ∷ []) r.later (contains_head r.later [])); earlier = within r.earlier (contains_head r.earlier (r.later ∷ [])) }
-
--- the picks of a deadlock are places of the trace
-deadlock_within : (h : History) (pattern : List Class) (d : FoundDeadlock) → IsPattern h.events pattern → IsInstance pattern d.picks → IsDeadlockWithin h.events d
-deadlock_within h pattern d is picked = λ k e less. instance_within h.events pattern d.picks is picked (get_or d.picks k e) (Contains-get_or d.picks k e less)
-
--- the places of what is predicted are places of the trace
-pub predicted_within : (h : History) (found : Found) → ArePredicted h found → AreWithin h.events found
-unfolding ArePredictions
-predicted_within h found are = record {
-  races = λ k d less. race_within h (get_or found.races k d) (are.1.races k d less);
-  deadlocks = λ k d less. let (p, inside, is) = pattern_of (IsFoundDeadlock h.events h.threads (by_reorderings h.events)) are.1.patterns found.deadlocks k (get_or found.deadlocks k d) are.1.deadlocks (slice_get-get_or found.deadlocks k d less) in
-      deadlock_within h p (get_or found.deadlocks k d) ((are.1.members p).0 inside).0 is.deadlock.picked;
-}
+use Rattle.syncp.specs.Output.{IsOutput}
 
 -- its text is the output for the input that says the trace
 pub output : (size : ℕ) (input : List ℕ) (r : (History × NameLists) × Found) (text : List ℕ) (count : ℕ) → IsPredictedFrom size input r → text ≡ report_text r.0.0.events r.1 → count ≡ count_of_findings r.1 → IsOutput size input text (nat_lt 0 count)
 unfolding IsReport
-output size input r text count is written counted = (is.0, is.1, subst (λ (h : History). IsReport h size text (nat_lt 0 count)) is.2 (r.1, is.4, written, ap (nat_lt 0) counted))
+output size input r text count is written counted = (is.0, is.1, subst (λ (h : History). IsReport h size text (nat_lt 0 count)) is.2 (r.1, is.4, is.5, written, ap (nat_lt 0) counted))

@@ -1,32 +1,21 @@
 -- Faults of the program, and their lines.
-use Rattle.std.specs.Prelude.{◌≡◌, ℕ, List, ◌++◌, codes, Result, Err}
+use Rattle.std.specs.Prelude.{◌≡◌, ℕ, List, ◌++◌, codes}
 use Rattle.std.specs.Fmt.{decimal}
-use Rattle.trace_laws.specs.Names.{NameLists}
-use Rattle.std_text.specs.Refusal.{LineFault, Refusal, refusal_of}
-use Rattle.std_text.specs.declared.fault.ReadFault.{ReadFault}
-use Rattle.std_text.specs.declared.fault.ReadFault.TheVariants as read
 use Rattle.std_text.specs.declared.fault.StdKind.{StdKind}
 use Rattle.std_text.specs.declared.fault.StdKind.TheVariants.{LineTooLong, NoBar, BadName, UnknownOperation, BadOperand, InputTooLong, TooManyEvents, TooManyThreads, TooManyLocks, TooManyVars, LockHeld, Reentrant, NotHeld, ForkLate, ForkTwice, SelfThread, AfterJoin}
 use Rattle.syncp.specs.declared.outcome.Fault.{Fault}
 use Rattle.script_machine.specs.declared.fault.ScriptKind.{ScriptKind}
+use Rattle.intake.specs.declared.fault.IntakeFault.{IntakeFault}
+use Rattle.intake.specs.declared.fault.IntakeFault.TheVariants as intake
 use Rattle.script_machine.specs.declared.fault.ScriptKind.TheVariants as script
 use Rattle.syncp.specs.declared.outcome.Fault.TheVariants.{Text, Script, NotAStep, TooManyPatterns, NoFinding, Read, Write, OutOfMemory}
 
--- the refusal that a fault and a holder's name tell
-abbrev pub refusal_with : LineFault → List ℕ → Refusal
-refusal_with f holder = record { line = f.line; kind = f.kind; holder = holder }
-
--- the program's fault tells that of a reader, with the name that its holder has, unless memory ran out
-abbrev pub TellsFault : NameLists → ReadFault → Fault → Type 0
-TellsFault names (read.Text e) (Text f holder) = refusal_with f holder ≡ refusal_of names e
-TellsFault names e OutOfMemory = Unit {0}
-TellsFault names e f = ⊥
-
--- the text is refused as the program's fault tells, unless memory ran out
-abbrev pub TellsRefusal : {A : Type 0} → Result A Refusal → Fault → Type 0
-TellsRefusal read (Text f holder) = read ≡ Err (refusal_with f holder)
-TellsRefusal read OutOfMemory = Unit {0}
-TellsRefusal read f = ⊥
+-- the program's fault for one of reading
+abbrev pub fault_of : IntakeFault → Fault
+fault_of (intake.Text f holder) = Text f holder
+fault_of (intake.Script f) = Script f
+fault_of intake.Read = Read
+fault_of intake.OutOfMemory = OutOfMemory
 
 -- the number and the name of a kind, with a space where the holder's name follows
 abbrev pub kind_text : StdKind → List ℕ

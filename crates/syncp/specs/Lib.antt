@@ -7,7 +7,6 @@ pub mod Modes
 pub mod Statuses
 pub mod Tasks
 pub mod Witnesses
-pub mod Inputs
 pub mod Replayed
 pub mod Replaying
 pub mod Runs

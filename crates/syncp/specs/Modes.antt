@@ -8,17 +8,21 @@ use Rattle.script_machine.specs.Machine.{Script as Program}
 use Rattle.script_machine.specs.ScriptText.{FirstFault}
 use Rattle.syncp.specs.declared.outcome.Fault.{Fault}
 use Rattle.syncp.specs.declared.outcome.Fault.TheVariants.{Text, Script, NotAStep, TooManyPatterns, NoFinding}
-use Rattle.syncp.specs.Faults.{refusal_with}
-use Rattle.syncp.specs.Output.{history_of, IsStd, IsKnownFault, HasNoFault, IsOutput}
-use Rattle.syncp.specs.Recorded.{IsTooLong, IsRecordOf, IsScriptOf}
-use Rattle.syncp.specs.Inputs.{scripts_in}
+use Rattle.intake.specs.Faults.{refusal_with}
+use Rattle.syncp.specs.Output.{IsOutput}
+use Rattle.intake.specs.TraceTexts.{history_of, IsStd, IsKnownFault, HasNoFault}
+use Rattle.syncp.specs.Recorded.{IsRecordOf}
+use Rattle.intake.specs.Lengths.{IsTooLong}
+use Rattle.intake.specs.Reads.{IsScriptOf}
+use Rattle.intake.specs.Inputs.{scripts_in}
 use Rattle.pattern_walk.specs.Listed.{HasMorePatterns}
 use Rattle.predictor.specs.Predictions.{HasFewPatterns}
 use Rattle.syncp.specs.Replayed.{IsReplay, SaysRun, SaysNoTrace, SaysNoRun, SaysManyPatterns}
 use Rattle.syncp.specs.Runs.{IsRunOf, IsCutRunOf}
 use Rattle.syncp.specs.Drawing.{IsBench, HasFewDrawn, HasManyDrawn}
 use Rattle.syncp.specs.Tasks.{Task, Predict, Record, Witness, Replay, Run, Bench}
-use Rattle.syncp.specs.Witnesses.{IsWitness, HasFinding, LacksFinding}
+use Rattle.answers.specs.Witnesses.{HasFinding, LacksFinding}
+use Rattle.syncp.specs.Witnesses.{IsWitness}
 
 -- the input is in the grammar of the task: it is a trace text, which has the finding that is asked for, a script of no
 -- more bytes than an input may have, or such a script with a run of it; the trace, or the one that is drawn, has not too
@@ -59,9 +63,9 @@ HasNoFaultIn (Replay size) input = length input ≤ MAX_INPUT
 HasNoFaultIn (Run size) input = length input ≤ MAX_INPUT
 HasNoFaultIn (Bench size seed events) input = ⊥
 
--- the whole input says a trace that has fewer findings
+-- the whole input says a trace that has not too many patterns, and fewer findings
 abbrev pub IsPastFindings : Type 0 → List ℕ → ℕ → ℕ → Type 0
-IsPastFindings Ended input size number = (p : Progress) × IsStd input p × LacksFinding (history_of p) size number × Ended
+IsPastFindings Ended input size number = (p : Progress) × IsStd input p × HasFewPatterns p.reading.events size × LacksFinding (history_of p) size number × Ended
 
 -- the whole input says a trace that has too many patterns
 abbrev pub IsPastPatterns : Type 0 → List ℕ → ℕ → Type 0

@@ -1,22 +1,17 @@
 -- What an outcome says of what was read and written. Ended says that the source is at its end.
-use Rattle.std.specs.Prelude.{◌≡◌, ◌≤◌, ◌⊎◌, ℕ, Bool, List, [], length, Result, Ok, Err}
+use Rattle.std.specs.Prelude.{◌≡◌, ◌≤◌, ◌⊎◌, ℕ, Bool, List, [], Result, Ok, Err}
 use Rattle.sp_base.specs.Moves.{IsFront}
-use Rattle.sp_base.specs.declared.limits.TheConstants.{MAX_INPUT}
 use Rattle.trace_laws.specs.Traces.{History}
 use Rattle.trace_laws.specs.Names.{NameLists}
 use Rattle.trace_laws.specs.Findings.{Found}
-use Rattle.predictor.specs.Predictions.{ArePredictions}
+use Rattle.predictor.specs.Predictions.{ArePredictions, HasFewPatterns}
 use Rattle.std_text.specs.Framing.{Progress}
-use Rattle.std_text.specs.Refusal.{Refusal}
-use Rattle.std_text.specs.Told.{Told}
 use Rattle.syncp.specs.declared.outcome.Fault.{Fault}
 use Rattle.syncp.specs.declared.outcome.Fault.TheVariants.{Text, Script, NotAStep, TooManyPatterns, NoFinding, Read, Write, OutOfMemory}
 use Rattle.syncp.specs.declared.outcome.Outcome.{Outcome}
 use Rattle.syncp.specs.declared.outcome.Outcome.TheVariants.{Done, Refused}
-use Rattle.syncp.specs.Faults.{TellsRefusal, refusal_with}
 use Rattle.syncp.specs.Modes.{IsOutputOf, IsFrontOf, HasNoFaultIn, IsRefusedIn, IsCut}
-use Rattle.syncp.specs.Output.{history_of, IsStd, IsKnownFault, HasNoFault}
-use Rattle.syncp.specs.Recorded.{IsTooLong}
+use Rattle.intake.specs.TraceTexts.{history_of, IsStd}
 use Rattle.syncp.specs.Tasks.{Task, Run}
 
 -- a fault before anything was written
@@ -30,38 +25,9 @@ FailsToRead task Ended Read input = HasNoFaultIn task input
 FailsToRead task Ended Write input = ⊥
 FailsToRead task Ended OutOfMemory input = Unit {0}
 
--- a fault while a trace was read
-abbrev pub FailsToReadTrace : Type 0 → Fault → List ℕ → Type 0
-FailsToReadTrace Ended (Text f holder) input = IsKnownFault Ended input (refusal_with f holder)
-FailsToReadTrace Ended Read input = HasNoFault input
-FailsToReadTrace Ended OutOfMemory input = Unit {0}
-FailsToReadTrace Ended f input = ⊥
-
--- a fault while all of a source was gathered
-abbrev pub FailsToGather : Fault → List ℕ → Type 0
-FailsToGather (Text f holder) input = IsTooLong input f × (holder ≡ [])
-FailsToGather Read input = length input ≤ MAX_INPUT
-FailsToGather OutOfMemory input = Unit {0}
-FailsToGather f input = ⊥
-
--- where the text gives read, a reader went on to it, or the fault tells why the text is refused there
-abbrev pub GoesOn : Result Progress Refusal → Told → Result (Unit {0}) Fault → Type 0
-GoesOn read new (Ok u) = (p : Progress) × (read ≡ Ok p) × (new.read ≡ Ok p)
-GoesOn read new (Err fault) = TellsRefusal read fault
-
--- where the text gives read at its end, the answer is its trace and names, or the fault tells why the text is refused
-abbrev pub Ends : Result Progress Refusal → Result (History × NameLists) Fault → Type 0
-Ends read (Ok answer) = (p : Progress) × (read ≡ Ok p) × (answer.0 ≡ history_of p) × (answer.1 ≡ p.reading.names)
-Ends read (Err fault) = TellsRefusal read fault
-
--- a reading of all the input, or a fault
-abbrev pub IsReadFrom : Type 0 → Result (History × NameLists) Fault → List ℕ → Type 0
-IsReadFrom Ended (Ok read) input = (p : Progress) × IsStd input p × (read.0 ≡ history_of p) × (read.1 ≡ p.reading.names)
-IsReadFrom Ended (Err fault) input = FailsToReadTrace Ended fault input
-
--- a trace that the whole input says with its names, and what is predicted from it
+-- a trace that the whole input says with its names, which has not too many patterns, and what is predicted from it
 abbrev pub IsPredictedFrom : ℕ → List ℕ → (History × NameLists) × Found → Type 0
-IsPredictedFrom size input r = (p : Progress) × IsStd input p × (r.0.0 ≡ history_of p) × (r.0.1 ≡ p.reading.names) × ArePredictions r.0.0 size r.1
+IsPredictedFrom size input r = (p : Progress) × IsStd input p × (r.0.0 ≡ history_of p) × (r.0.1 ≡ p.reading.names) × ArePredictions r.0.0 size r.1 × HasFewPatterns r.0.0.events size
 
 -- the output for an input with whether it has a finding, or the fault because of which nothing is written
 abbrev pub Makes : Task → Type 0 → Result (List ℕ × Bool) Fault → List ℕ → Type 0

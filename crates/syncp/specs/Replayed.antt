@@ -1,24 +1,19 @@
 -- An input of a script and a trace that is a run of it, and the replays of what is found in it.
-use Rattle.std.specs.Prelude.{◌≡◌, ◌≤◌, ◌+◌, ℕ, Bool, List, [], ◌∷◌, ◌++◌, length, nat_lt, Result, Ok, Err}
-use Rattle.std.specs.List.{AllZip}
+use Rattle.std.specs.Prelude.{◌≡◌, ◌≤◌, ℕ, Bool, List, length, nat_lt, Result, Ok, Err}
 use Rattle.sp_base.specs.declared.limits.TheConstants.{MAX_INPUT}
 use Rattle.trace_laws.specs.Event.{Event}
 use Rattle.trace_laws.specs.Findings.{Found}
-use Rattle.trace_laws.specs.declared.finding.Finding.{Finding}
 use Rattle.trace_laws.specs.Locations.{DoTheSame}
-use Rattle.trace_laws.specs.Names.{NameLists}
-use Rattle.trace_laws.specs.Traces.{History}
 use Rattle.std_text.specs.Framing.{Progress, start_with}
 use Rattle.std_text.specs.Refusal.{Refusal}
 use Rattle.script_machine.specs.Machine.{Script, State, LegalRun}
 use Rattle.script_machine.specs.OfTrace.{IsFirstNoStep}
 use Rattle.script_machine.specs.ScriptText.{Scripts}
 use Rattle.pattern_walk.specs.Listed.{HasMorePatterns}
-use Rattle.replayer.specs.Replayed.{Replayed, IsRaceReplay, IsDeadlockReplay, IsReplayOf}
-use Rattle.report.specs.ReachedLines.{reached_line, closing_reached}
-use Rattle.syncp.specs.Inputs.{scripts_in, trace_in, trace_line}
-use Rattle.syncp.specs.Output.{whole_reading}
-use Rattle.predictor.specs.Predictions.{ArePredictions, count_of_findings}
+use Rattle.answers.specs.Replays.{WritesReplays, run_of}
+use Rattle.intake.specs.Inputs.{scripts_in, trace_in, trace_line}
+use Rattle.intake.specs.TraceTexts.{whole_reading}
+use Rattle.predictor.specs.Predictions.{ArePredictions, HasFewPatterns, count_of_findings}
 
 -- what the trace of an input says behind its script, whose names have their numbers already
 abbrev pub reading_behind : Script → List ℕ → Result Progress Refusal
@@ -59,38 +54,12 @@ pub record SaysManyPatterns (size : ℕ) (input : List ℕ) : Type 0 where
   pub run : SaysRun input
   pub many : HasMorePatterns run.run size
 
--- a run with the number of threads of its script
-abbrev pub run_of : Script → List Event → History
-run_of script events = record { events = events; threads = length script.bodies }
-
--- the lines of replays, which are numbered on
-abbrev pub reached_lines : NameLists → ℕ → List Replayed → List ℕ
-reached_lines names n [] = []
-reached_lines names n (replay ∷ replays) = reached_line names n replay ++ reached_lines names (n + 1) replays
-
--- the lines of replays, which are numbered from 1, and the last line
-abbrev pub replays_text : NameLists → List Replayed → List ℕ
-replays_text names replays = reached_lines names 1 replays ++ closing_reached (length replays)
-
--- one more replay, whose line stands behind the others
-pub record AddsReplay (script : Script) (run : History) (finding : Finding) (number : ℕ) (old new : List ℕ) : Type 0 where
-  pub replay : Replayed
-  pub is : IsReplayOf script run finding replay
-  pub line : new ≡ old ++ reached_line script.names number replay
-
--- The text is that of the replays of all that is found in a run, of the races and then of the deadlocks: each takes the
--- script along the kept events of its finding.
-pub record WritesReplays (script : Script) (run : History) (found : Found) (text : List ℕ) : Type 0 where
-  pub races : List Replayed
-  pub deadlocks : List Replayed
-  pub of_races : AllZip (IsRaceReplay script run) found.races races
-  pub of_deadlocks : AllZip (IsDeadlockReplay script run) found.deadlocks deadlocks
-  pub written : text ≡ replays_text script.names (races ++ deadlocks)
-
--- the text is that of the replays of all that is found in the trace that the input says, and whether there is any
+-- the text is that of the replays of all that is found in the trace that the input says, which has not too many patterns, and
+-- whether there is any
 pub record IsReplay (size : ℕ) (input text : List ℕ) (found : Bool) : Type 0 where
   pub run : SaysRun input
   pub all : Found
   pub predicted : ArePredictions (run_of run.script run.p.reading.events) size all
+  pub few : HasFewPatterns run.run size
   pub replays : WritesReplays run.script (run_of run.script run.run) all text
   pub found_is : found ≡ nat_lt 0 (count_of_findings all)

@@ -5,13 +5,13 @@ ghost use Rattle.sp_base.specs.Causes.{Rose};
 ghost use Rattle.sp_base.specs.Moves.{Took, Gained};
 ghost use Rattle.syncp.specs.Modes.{IsAccepted};
 ghost use Rattle.syncp.specs.Outcome.{Explains, IsAnswered, IsDone, Makes};
-ghost use Rattle.syncp.specs.Output.{IsWithinLimit};
+ghost use Rattle.intake.specs.Lengths.{IsWithinLimit};
 ghost use Rattle.syncp.specs.Tasks.{Predict};
 
 use crate::answer::write_answer;
 use crate::outcome::{Fault, Outcome};
 use crate::predicted::read_predicted;
-use crate::report_of::report_of;
+use answers::report_of;
 use sp_base::{Gate, MAX_SIZE, MAX_WORKERS, MIN_SIZE, Sink, Source, SureSink};
 use std::alloc::Global;
 use std::thread::Threads;

@@ -1,23 +1,11 @@
 // How a call ends that has its text.
-ghost use Rattle.std.specs.Prelude.{◌≡◌, ◌≢◌, Err, IfOk};
+ghost use Rattle.std.specs.Prelude.{◌≡◌, ◌≢◌, Err};
 ghost use Rattle.sp_base.specs.Causes.{Rose};
 ghost use Rattle.sp_base.specs.Moves.{Gained};
 ghost use Rattle.syncp.specs.Outcome.{EndsAnswer};
 
 use crate::outcome::{Fault, Outcome};
-use sp_base::{OutOfMemory, Sink, SureSink, WriteFault, write_all};
-use std::alloc::Global;
-
-/// A sink in memory that has taken a text. The only error is want of memory.
-pub fn sink_with(alloc: Global, text: &[u8]) -> Result<SureSink, OutOfMemory>
-    ensures { IfOk result (λ sink. sink ≡ text.now) }
-{
-    let mut sink = SureSink::new(alloc);
-    match write_all(&mut sink, text) {
-        Ok(()) => Ok(sink),
-        Err(_) => Err(OutOfMemory),
-    }
-}
+use sp_base::{Sink, SureSink, WriteFault, write_all};
 
 /// Writes a text, with which it is said whether anything was found, and says how the call ended; or says why there is no
 /// text, and writes nothing. `Write` comes only where it was said before, or the sink's count of faults rose.

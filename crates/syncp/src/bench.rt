@@ -1,27 +1,24 @@
 // The mode `bench`.
-ghost use Rattle.std.specs.Prelude.{◌≡◌, ◌≤◌, [], length, IfOk, string_bytes};
+ghost use Rattle.std.specs.Prelude.{◌≡◌, ◌≤◌, [], IfOk};
 ghost use Rattle.sp_base.specs.Causes.{Rose};
 ghost use Rattle.sp_base.specs.Moves.{Gained};
 ghost use Rattle.sp_base.specs.declared.limits.TheConstants.{MAX_EVENTS};
-ghost use Rattle.syncp.specs.Drawing.{IsDrawnTrace, bench_lines, bench_text, events_line, report_line};
+ghost use Rattle.syncp.specs.Drawing.{IsDrawnTrace};
 ghost use Rattle.syncp.specs.Modes.{IsAccepted};
 ghost use Rattle.syncp.specs.Outcome.{Explains, IsAnswered, Makes};
-ghost use Rattle.report.specs.Reports.{report_text};
-ghost use Rattle.predictor.specs.Predictions.{ArePredicted};
 ghost use Rattle.syncp.specs.Tasks.{Bench};
 
-use crate::answer::{sink_with, write_answer};
-use crate::behind::trace_behind;
+use crate::answer::write_answer;
 use crate::outcome::{Fault, Outcome};
-use crate::report_of::report_of;
+use answers::bench_text;
 use command_words::{MAX_DRAWN_EVENTS, MAX_SEED, MIN_DRAWN_EVENTS};
 use drawn_trace::draw;
+use intake::{IntakeFault, trace_behind};
 use predictor::{FindFault, find};
-use report::last_line;
 use sp_base::{Gate, MAX_SIZE, MAX_WORKERS, MIN_SIZE, OutOfMemory, Sink, SureSink};
 use std::alloc::Global;
 use std::thread::Threads;
-use trace_laws::{Findings, Names, Trace};
+use trace_laws::{Names, Trace};
 
 // The trace that the text of a seed says, which is never refused.
 #[tactic(auto, using(crate::proofs::Drawn::drawn_read, crate::proofs::Drawn::never_refused))]
@@ -33,69 +30,9 @@ fn trace_of_seed(alloc: Global, seed: u64, events: u32) -> Result<Trace, OutOfMe
     let names = Names::new(alloc)?;
     match trace_behind(alloc, &names, 1, &text) {
         Ok(trace) => Ok(trace),
-        Err(Fault::Text { .. }) => unreachable!(),
+        Err(IntakeFault::Text { .. }) => unreachable!(),
         Err(_) => Err(OutOfMemory),
     }
-}
-
-// How many deadlocks there are.
-fn count_of_deadlocks(findings: &Findings) -> u32
-    ensures { result ≡ length findings.now.deadlocks }
-{
-    findings.len() - findings.races()
-}
-
-// The line of how many events there are.
-fn events_line(alloc: Global, events: u32) -> Result<String, OutOfMemory>
-    ensures { IfOk result (λ line. string_bytes line ≡ events_line events) }
-{
-    match format!(in alloc; "events {events}\n") {
-        Ok(line) => Ok(line),
-        Err(_) => Err(OutOfMemory),
-    }
-}
-
-// The line of how long a report is.
-fn report_line(alloc: Global, bytes: usize) -> Result<String, OutOfMemory>
-    ensures { IfOk result (λ line. string_bytes line ≡ report_line bytes) }
-{
-    match format!(in alloc; "report {bytes} bytes\n") {
-        Ok(line) => Ok(line),
-        Err(_) => Err(OutOfMemory),
-    }
-}
-
-// The lines that tell how much there was.
-fn lines_of(
-    alloc: Global,
-    events: u32,
-    races: u32,
-    deadlocks: u32,
-    bytes: usize,
-) -> Result<String, OutOfMemory>
-    ensures { IfOk result (λ text. string_bytes text ≡ bench_lines events races deadlocks bytes) }
-{
-    let mut text = events_line(alloc, events)?;
-    text.push_str(last_line(alloc, races, deadlocks)?.as_str())?;
-    text.push_str(report_line(alloc, bytes)?.as_str())?;
-    Ok(text)
-}
-
-// The text for a trace and what is predicted from it.
-fn text_of(
-    alloc: Global,
-    events: u32,
-    trace: &Trace,
-    findings: &Findings,
-) -> Result<SureSink, OutOfMemory>
-    requires { ArePredicted trace.now findings.now }
-    ensures { IfOk result (λ text. text ≡ bench_text events findings.now (length (report_text trace.now.events findings.now))) }
-{
-    let report = report_of(alloc, trace, findings)?;
-    let races = findings.races();
-    let deadlocks = count_of_deadlocks(findings);
-    let lines = lines_of(alloc, events, races, deadlocks, report.text().len())?;
-    sink_with(alloc, lines.as_bytes())
 }
 
 // Draws the trace of a seed, and answers the text for it.
@@ -124,7 +61,7 @@ fn bench_of_seed<R: Threads + Sync, G: Gate + Sync>(
         Err(FindFault::TooManyPatterns) => return Err(Fault::TooManyPatterns),
         Err(FindFault::OutOfMemory) => return Err(Fault::OutOfMemory),
     };
-    match text_of(alloc, events, &trace, &findings) {
+    match bench_text(alloc, events, &trace, &findings) {
         Ok(text) => Ok((text, false)),
         Err(_) => Err(Fault::OutOfMemory),
     }

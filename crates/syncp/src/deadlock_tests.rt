@@ -183,7 +183,8 @@ fn traces_with_many_patterns(rt: HostRuntime) -> Result<(), Fail> {
         code: 4,
     };
     assert!(rt; leaves_by(&rt, alloc, &["syncp", "predict"], &more, 4_096, &left)?);
-    assert!(rt; leaves_by(&rt, alloc, &["syncp", "witness"], &more, 4_096, &left)?);
+    let far = ["syncp", "witness", "--finding", "69632"];
+    assert!(rt; leaves_by(&rt, alloc, &far, &more, 4_096, &left)?);
     Ok(())
 }
 

@@ -3,7 +3,8 @@ ghost use Rattle.std.specs.Prelude.{◌≡◌, ◌++◌, IfOk, codes, string_byt
 ghost use Rattle.std.specs.Fmt.{decimal};
 ghost use Rattle.syncp.specs.Faults.{fault_line, kind_text, script_kind_text};
 
-use crate::outcome::{Fault, HolderName};
+use crate::outcome::Fault;
+use intake::HolderName;
 use script_machine::{ScriptFault, ScriptKind};
 use sp_base::OutOfMemory;
 use std::alloc::Global;

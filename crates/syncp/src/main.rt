@@ -4,42 +4,38 @@
 
 mod analyse;
 mod answer;
-mod behind;
 mod bench;
 #[cfg(test)]
 mod bench_tests;
 #[cfg(test)]
 mod deadlock_tests;
+#[cfg(test)]
+mod device_tests;
 mod fault_line;
 #[cfg(test)]
 mod meeting;
+#[cfg(test)]
+mod meeting_tests;
 mod outcome;
-mod parts;
 mod predicted;
 mod reach;
-mod reading;
 mod record_mode;
 #[cfg(test)]
 mod record_tests;
 #[cfg(test)]
 mod replay_tests;
-mod replay_text;
 mod replays;
-mod report_of;
 mod run;
 mod run_mode;
 #[cfg(test)]
 mod run_tests;
-mod run_text;
-mod script_text;
+mod scripts_of;
 mod show;
 mod status;
 #[cfg(test)]
 mod tests;
-mod whole_text;
 #[cfg(test)]
 mod witness_tests;
-mod witness_text;
 
 use outcome::Status;
 use run::run;

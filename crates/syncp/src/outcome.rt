@@ -1,54 +1,10 @@
 // How a call ended.
-ghost use Rattle.std.specs.Prelude.{◌≡◌, IfOk, []};
+ghost use Rattle.std.specs.Prelude.{◌≡◌};
 
+use intake::{HolderName, IntakeFault};
 use script_machine::ScriptFault;
-use sp_base::OutOfMemory;
-use std::alloc::Global;
-use std::marker::Model;
 use std_text::StdFault;
 use thiserror::Error;
-
-/// The name of the thread that holds a lock, which contracts see as its bytes. It is empty where no thread is named.
-#[derive(Debug, Drop)]
-pub struct HolderName {
-    name: Vec<u8>,
-}
-
-impl Model for HolderName {
-    ghost use Rattle.std.specs.Prelude.{List, ℕ};
-
-    ghost Value = { List ℕ };
-
-    ghost view = { λ h. h.name.items };
-}
-
-impl HolderName {
-    /// No name.
-    pub fn none(alloc: Global) -> HolderName
-        ensures { result ≡ [] }
-    {
-        HolderName {
-            name: Vec::new(alloc),
-        }
-    }
-
-    /// A copy of a name.
-    pub fn new(alloc: Global, name: &[u8]) -> Result<HolderName, OutOfMemory>
-        ensures { IfOk result (λ holder. holder ≡ name.now) }
-    {
-        match name.to_vec(alloc) {
-            Ok(name) => Ok(HolderName { name }),
-            Err(_) => Err(OutOfMemory),
-        }
-    }
-
-    /// The bytes of the name, which need not be UTF-8.
-    pub fn bytes(&self) -> &[u8]
-        ensures { result.now ≡ self.now }
-    {
-        &self.name
-    }
-}
 
 /// Why a call gave no whole output.
 #[derive(Debug, Drop, Error)]
@@ -77,6 +33,21 @@ pub enum Fault {
     /// Memory ran out.
     #[error("no memory")]
     OutOfMemory,
+}
+
+impl From<IntakeFault> for Fault {
+    ghost use Rattle.syncp.specs.Faults.{fault_of};
+
+    ghost from_gives = { λ f e. e ≡ fault_of f };
+
+    fn from(fault: IntakeFault) -> Fault {
+        match fault {
+            IntakeFault::Text { fault, holder } => Fault::Text { fault, holder },
+            IntakeFault::Script(fault) => Fault::Script(fault),
+            IntakeFault::Read => Fault::Read,
+            IntakeFault::OutOfMemory => Fault::OutOfMemory,
+        }
+    }
 }
 
 /// How a call ended: the whole output was written, which has a finding or none, or it was refused.

@@ -5,11 +5,11 @@ ghost use Rattle.sp_base.specs.Causes.{Rose};
 ghost use Rattle.sp_base.specs.Moves.{Took};
 ghost use Rattle.std_text.specs.Writing.{AreNamed};
 ghost use Rattle.syncp.specs.Outcome.{FailsToRead, IsPredictedFrom};
-ghost use Rattle.syncp.specs.Output.{IsWithinLimit};
+ghost use Rattle.intake.specs.Lengths.{IsWithinLimit};
 ghost use Rattle.syncp.specs.Tasks.{Predict};
 
 use crate::outcome::Fault;
-use crate::reading::read_trace;
+use intake::read_trace;
 use predictor::{FindFault, find};
 use sp_base::{Gate, MAX_SIZE, MAX_WORKERS, MIN_SIZE, Source};
 use std::alloc::Global;
@@ -20,7 +20,7 @@ use trace_laws::{Findings, Names, Trace};
 /// it, with deadlock patterns of at most that size. A refused text is answered with the first fault that is known,
 /// `TooManyPatterns` where the whole input is a trace that has too many patterns, and `Read` only where the source's count
 /// of faults rose.
-#[tactic(auto, using(crate::proofs::Predicting::predicted, crate::proofs::Predicting::not_read))]
+#[tactic(auto, using(crate::proofs::Predicting::predicted, crate::proofs::Predicting::not_read, crate::proofs::ReadingFaults::source_failed))]
 pub fn read_predicted<R: Threads + Sync, S: Source, G: Gate + Sync>(
     rt: &R,
     alloc: Global,

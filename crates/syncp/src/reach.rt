@@ -5,19 +5,20 @@ ghost use Rattle.sp_base.specs.Causes.{Rose};
 ghost use Rattle.sp_base.specs.Moves.{Took, Gained};
 ghost use Rattle.syncp.specs.Modes.{IsAccepted};
 ghost use Rattle.syncp.specs.Outcome.{Explains, IsAnswered, IsDone, Makes};
-ghost use Rattle.syncp.specs.Output.{IsWithinLimit};
+ghost use Rattle.intake.specs.Lengths.{IsWithinLimit};
 ghost use Rattle.syncp.specs.Tasks.{Replay};
 
 use crate::answer::write_answer;
 use crate::outcome::{Fault, Outcome};
 use crate::replays::replays_of;
-use crate::whole_text::whole_text;
+use intake::whole_text;
 use script_machine::laws::{exclusive_law, of_law};
 use sp_base::{Gate, MAX_SIZE, MAX_WORKERS, MIN_SIZE, Sink, Source, SureSink};
 use std::alloc::Global;
 use std::thread::Threads;
 
 // Reads the source to its end, and answers the text of the replays and whether there is any.
+#[tactic(auto, using(crate::proofs::ReadingFaults::gathering_fails_to_replay, crate::proofs::ReadingFaults::source_failed))]
 fn replay_source<R: Threads + Sync, S: Source, G: Gate + Sync>(
     rt: &R,
     alloc: Global,

@@ -5,13 +5,13 @@ ghost use Rattle.sp_base.specs.Causes.{Rose};
 ghost use Rattle.sp_base.specs.Moves.{Took, Gained};
 ghost use Rattle.syncp.specs.Modes.{IsAccepted};
 ghost use Rattle.syncp.specs.Outcome.{Explains, IsDone};
-ghost use Rattle.syncp.specs.Output.{IsWithinLimit};
+ghost use Rattle.intake.specs.Lengths.{IsWithinLimit};
 ghost use Rattle.syncp.specs.Tasks.{Record};
 
 use crate::outcome::{Fault, Outcome};
-use crate::script_text::read_script;
+use crate::scripts_of::scripts_of;
+use answers::write_recording;
 use recorder::record;
-use report::write_trace;
 use script_machine::laws::exclusive_law;
 use sp_base::{Gate, Sink, Source, WriteFault};
 use std::alloc::Global;
@@ -46,14 +46,14 @@ pub fn record_scripts<R: Threads + Wait + Sync, S: Source, K: Sink, G: Gate + Sy
         IsDone result ⊎ (result ≡ Outcome.Refused Fault.OutOfMemory) }
 {
     exclusive_law();
-    let script = match read_script(alloc, source) {
+    let script = match scripts_of(alloc, source) {
         Ok(script) => script,
         Err(fault) => return Outcome::Refused(fault),
     };
     let Ok(recording) = record(rt, alloc, &script, gate) else {
         return Outcome::Refused(Fault::OutOfMemory);
     };
-    match write_trace(alloc, out, recording.trace(), script.names()) {
+    match write_recording(alloc, out, &script, &recording) {
         Ok(()) => Outcome::Done { found: false },
         Err(WriteFault::Failed) => Outcome::Refused(Fault::Write),
         Err(WriteFault::OutOfMemory) => Outcome::Refused(Fault::OutOfMemory),

@@ -1,16 +1,13 @@
 // The replays of an input.
-ghost use Rattle.std.specs.Prelude.{◌≡◌, ◌≤◌, length, MatchResult};
+ghost use Rattle.std.specs.Prelude.{◌≤◌, length, MatchResult};
 ghost use Rattle.sp_base.specs.declared.limits.TheConstants.{MAX_INPUT};
-ghost use Rattle.syncp.specs.Replaying.{FailsToReplay, Records, ReplaysRun};
+ghost use Rattle.syncp.specs.Replaying.{FailsToReplay, Records};
 ghost use Rattle.syncp.specs.Replayed.{IsReplay};
 
-use crate::behind::trace_behind;
 use crate::outcome::Fault;
-use crate::parts::input_parts;
-use crate::replay_text::replay_text;
-use crate::script_text::script_of;
-use crate::whole_text::count_newlines;
-use predictor::{FindFault, find};
+use answers::replays_in;
+use intake::{count_newlines, input_parts, script_of, trace_behind};
+use predictor::FindFault;
 use script_machine::{Recording, RunFault, Script};
 use sp_base::{Gate, MAX_SIZE, MAX_WORKERS, MIN_SIZE, SureSink};
 use std::alloc::Global;
@@ -31,34 +28,6 @@ fn recording_of<'a>(
         Err(RunFault::NotAStep(place)) => Err(Fault::NotAStep(place)),
         Err(RunFault::OutOfMemory) => Err(Fault::OutOfMemory),
     }
-}
-
-// The replays of what is found in a recording with patterns of at most that size, and whether anything is.
-fn replays_in<R: Threads + Sync, G: Gate + Sync>(
-    rt: &R,
-    alloc: Global,
-    size: u8,
-    workers: u8,
-    script: &Script,
-    recording: &Recording,
-    gate: &G,
-) -> Result<(SureSink, bool), Fault>
-    requires least_size { MIN_SIZE ≤ size }
-    requires greatest_size { size ≤ MAX_SIZE }
-    requires least_workers { 1 ≤ workers }
-    requires greatest_workers { workers ≤ MAX_WORKERS }
-    requires script { recording.now.machine.script ≡ script.now }
-    ensures { ReplaysRun size script.now recording.now.trace result }
-{
-    let findings = match find(rt, alloc, recording.trace(), size, workers, gate) {
-        Ok(findings) => findings,
-        Err(FindFault::TooManyPatterns) => return Err(Fault::TooManyPatterns),
-        Err(FindFault::OutOfMemory) => return Err(Fault::OutOfMemory),
-    };
-    let Ok(text) = replay_text(alloc, script, recording, &findings) else {
-        return Err(Fault::OutOfMemory);
-    };
-    Ok((text, findings.len() > 0))
 }
 
 /// The text of the replays of an input of scripts and a trace, and whether there is any.
@@ -86,5 +55,9 @@ pub fn replays_of<R: Threads + Sync, G: Gate + Sync>(
     let script = script_of(alloc, scripts)?;
     let trace = trace_behind(alloc, script.names(), line, trace)?;
     let recording = recording_of(alloc, &script, &trace)?;
-    replays_in(rt, alloc, size, workers, &script, &recording, gate)
+    match replays_in(rt, alloc, size, workers, &script, &recording, gate) {
+        Ok(replays) => Ok(replays),
+        Err(FindFault::TooManyPatterns) => Err(Fault::TooManyPatterns),
+        Err(FindFault::OutOfMemory) => Err(Fault::OutOfMemory),
+    }
 }

@@ -6,7 +6,7 @@ ghost use Rattle.sp_base.specs.Moves.{Took, Gained};
 ghost use Rattle.syncp.specs.Modes.{IsAccepted};
 ghost use Rattle.syncp.specs.Outcome.{Explains};
 ghost use Rattle.syncp.specs.Outcome as outcome;
-ghost use Rattle.syncp.specs.Output.{IsWithinLimit};
+ghost use Rattle.intake.specs.Lengths.{IsWithinLimit};
 ghost use Rattle.syncp.specs.Run.{Means, Leaves, TellsOf, IsAnswered};
 ghost use Rattle.syncp.specs.Tasks.{HasInput, HasRead, task_of};
 ghost use Rattle.command_words.specs.Words.{KeepsRanges, reading_of};

@@ -1,22 +1,47 @@
 // The mode `run`.
-ghost use Rattle.std.specs.Prelude.{◌≡◌, ◌≢◌, ◌≤◌, ℕ, List, Some, OnOk, MatchResult, IsErrOf};
+ghost use Rattle.std.specs.Prelude.{◌≡◌, ◌≢◌, ◌≤◌, ℕ, List, Some, OnOk, IfOk, MatchResult, IsErrOf};
 ghost use Rattle.std.specs.Io.KnownBytes.{IsAtEnd};
 ghost use Rattle.sp_base.specs.Causes.{Rose};
 ghost use Rattle.sp_base.specs.Moves.{Took, Gained};
+ghost use Rattle.answers.specs.Runs.{IsRunText};
 ghost use Rattle.syncp.specs.Modes.{IsAccepted};
 ghost use Rattle.syncp.specs.Outcome.{Explains, FailsToRead, IsAnswered, IsDone};
-ghost use Rattle.syncp.specs.Output.{IsWithinLimit};
+ghost use Rattle.intake.specs.Lengths.{IsWithinLimit};
 ghost use Rattle.syncp.specs.Runs.{EndsRun, IsRunTextOf};
 ghost use Rattle.syncp.specs.Tasks.{Run};
 
 use crate::outcome::{Fault, Outcome};
-use crate::run_text::{RunText, text_of_run};
-use crate::script_text::read_script;
+use crate::scripts_of::scripts_of;
+use answers::{RunText, text_of_recording};
+use recorder::record;
+use script_machine::Script;
 use script_machine::laws::exclusive_law;
-use sp_base::{Gate, MAX_SIZE, MAX_WORKERS, MIN_SIZE, Sink, Source, WriteFault, write_all};
+use sp_base::{
+    Gate, MAX_SIZE, MAX_WORKERS, MIN_SIZE, OutOfMemory, Sink, Source, WriteFault, write_all,
+};
 use std::alloc::Global;
 use std::sync::Wait;
 use std::thread::Threads;
+
+// Runs a script on threads until none of them can step, and answers what is written of the run that was recorded. The only
+// error is want of memory.
+fn text_of_run<R: Threads + Wait + Sync, G: Gate + Sync>(
+    rt: &R,
+    alloc: Global,
+    size: u8,
+    workers: u8,
+    script: &Script,
+    gate: &G,
+) -> Result<RunText, OutOfMemory>
+    requires least_size { MIN_SIZE ≤ size }
+    requires greatest_size { size ≤ MAX_SIZE }
+    requires least_workers { 1 ≤ workers }
+    requires greatest_workers { workers ≤ MAX_WORKERS }
+    ensures { IfOk result (IsRunText size script.now) }
+{
+    let recording = record(rt, alloc, script, gate)?;
+    text_of_recording(rt, alloc, size, workers, script, &recording, gate)
+}
 
 // Reads the source to its end, runs its scripts, and answers what is written of the run.
 #[tactic(auto, using(crate::proofs::Ran::fails_to_run))]
@@ -37,7 +62,7 @@ fn run_source<R: Threads + Wait + Sync, S: Source, G: Gate + Sync>(
     ensures ended { OnOk result (IsAtEnd (S.left source.new)) }
     ensures cause { IsErrOf result Fault.Read → Rose (S.faults source.old) (S.faults source.new) }
 {
-    let script = read_script(alloc, source)?;
+    let script = scripts_of(alloc, source)?;
     match text_of_run(rt, alloc, size, workers, &script, gate) {
         Ok(run) => Ok(run),
         Err(_) => Err(Fault::OutOfMemory),

@@ -5,9 +5,8 @@ use Rattle.std.specs.declared.alloc.Global.{Global}
 use Rattle.std.proofs.Math.ListN.{length-set}
 use Rattle.sp_base.specs.declared.limits.TheConstants.{MAX_VARS}
 use Rattle.trace_laws.specs.Event.{Event}
-use Rattle.trace_laws.specs.declared.event.Op.TheVariants.{Read, Write}
 use Rattle.trace_laws.specs.Reordering.{Accesses}
-use Rattle.trace_laws.proofs.Places.{within_from_op, three_way}
+use Rattle.trace_laws.proofs.Places.{access_within, three_way}
 use Rattle.trace_index.specs.Listed.{ArePlacesBefore, IsAddedTo, IsListOf}
 use Rattle.trace_index.specs.Accessed.{AreAccesses, AreVariablesBelow, IsAccessOf, AreAccessLists}
 use Rattle.trace_index.proofs.Listing.{listed_none, listed_past, listed_added, list_of}
@@ -18,11 +17,6 @@ one_variable events p x y (inl a) (inl b) = cc
 one_variable events p x y (inl a) (inr b) = cc
 one_variable events p x y (inr a) (inl b) = cc
 one_variable events p x y (inr a) (inr b) = cc
-
--- an access is a place of the trace
-pub access_within : (events : List Event) (p x : ℕ) → Accesses events p x → p < length events
-access_within events p x (inl a) = within_from_op events p (Read x) a
-access_within events p x (inr a) = within_from_op events p (Write x) a
 
 -- no lists have the accesses before the first place
 pub accesses_none : (events : List Event) → AreAccessLists events 0 []

@@ -1,8 +1,10 @@
 pub mod Listing
 pub mod Accessing
+pub mod Positions
 pub mod Acquiring
 pub mod Named
 pub mod LockSets
 pub mod SetNumbering
 pub mod Holding
 pub mod HeldNumbers
+pub mod Stamping

@@ -5,7 +5,7 @@ use Rattle.trace_laws.specs.Traces.{History}
 use Rattle.trace_index.specs.declared.index.Index.TheInside.{Inside}
 use Rattle.trace_index.specs.Listed.{AreListed}
 use Rattle.trace_index.specs.Accessed.{AreAccessLists}
-use Rattle.trace_index.specs.Acquired.{IsAcquireOfPair}
+use Rattle.trace_index.specs.Acquired.{IsAcquireOfPair, ArePositions}
 use Rattle.trace_index.specs.HeldSets.{AreLocksBelow, AreHeldSets}
 
 -- an index is seen as its trace
@@ -16,5 +16,6 @@ history_in x = x.fronts
 pub record IsIndexed (x : Inside) : Type 0 where
   pub accesses : AreAccessLists x.fronts.events (length x.fronts.events) x.accesses.items
   pub acquires : AreListed (IsAcquireOfPair x.fronts.events x.fronts.threads) (length x.fronts.events) x.acquires.items
+  pub positions : ArePositions x.fronts.events x.fronts.threads (length x.fronts.events) x.acquires.items x.positions.items
   pub held : AreHeldSets x.fronts.events (length x.fronts.events) x.sets x.firsts.items x.held.items
   pub locks : AreLocksBelow x.fronts.events MAX_LOCKS

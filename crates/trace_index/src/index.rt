@@ -6,7 +6,7 @@ ghost use Rattle.trace_laws.specs.Kept.{local_of};
 ghost use Rattle.closed_fronts.specs.Tables.{IsOuter, IsOpened, IsNextRow};
 ghost use Rattle.closed_fronts.specs.Rows.{IsImplied};
 ghost use Rattle.trace_index.specs.Accessed.{AreAccesses, AreVariablesBelow};
-ghost use Rattle.trace_index.specs.Acquired.{AreAcquires, IsSectionAt};
+ghost use Rattle.trace_index.specs.Acquired.{AreAcquires, IsSectionAt, IsSectionNumber};
 ghost use Rattle.trace_index.specs.HeldSets.{AreLocksBelow, IsAcquire, IsHeldAt, IsHeldSet, HaveSameHeld, HaveNoneCommon, IsFirstAlike};
 
 use crate::access_lists::AccessLists;
@@ -31,6 +31,7 @@ pub struct Index<'a> {
     fronts: Fronts<'a>,
     accesses: Vec<Vec<u32>>,
     acquires: Vec<Vec<u32>>,
+    positions: Vec<u32>,
     sets: SetNumbers,
     firsts: Vec<u32>,
     held: Vec<u32>,
@@ -55,7 +56,7 @@ impl<'a> Index<'a> {
     {
         let fronts = Fronts::build(alloc, trace)?;
         let mut accesses = AccessLists::new(alloc, trace);
-        let mut acquires = AcquireLists::new(alloc, trace);
+        let mut acquires = AcquireLists::new(alloc, trace)?;
         let mut holdings = Holdings::new(alloc, trace)?;
         let mut held = HeldSets::new(alloc, trace)?;
         for place in 0..trace.len() {
@@ -68,6 +69,7 @@ impl<'a> Index<'a> {
             fronts,
             accesses: accesses.lists,
             acquires: acquires.lists,
+            positions: acquires.positions,
             sets: held.sets,
             firsts: held.firsts,
             held: held.numbers,
@@ -189,6 +191,16 @@ impl<'a> Index<'a> {
             acquire: *acquire,
             release: self.release(*acquire),
         })
+    }
+
+    /// The number of the section of an acquire, from 0, among the sections of its lock by its thread.
+    pub fn section_number(&self, acquire: u32) -> u32
+        requires { IsAcquire self.now.events acquire }
+        ensures { IsSectionNumber self.now.events acquire result }
+    {
+        // A trace names only threads below its number of threads, as its length says.
+        let _ = self.trace().len();
+        self.positions[acquire as usize]
     }
 
     /// The held set of an acquire: the numbers of the locks that its thread holds just before it, from the least on.

@@ -4,13 +4,13 @@ use Rattle.closed_fronts.specs.Rows.{IsSteady, AreWithin}
 use Rattle.closed_fronts.proofs.Joins.{room}
 use Rattle.closed_fronts.proofs.mending.mend.Given as goal
 
-abbrev pub invariant-loop-release : goal.invariant-loop-release
-invariant-loop-release l = record {
+abbrev pub invariant-loop-acquire : goal.invariant-loop-acquire
+invariant-loop-acquire l = record {
   start : l.start ≤ l.ties.threads;
   steady : IsSteady l.ties.events l.ties.threads l.cuts;
   within : AreWithin l.cuts (length l.rows + 1);
   admits : Admits l.ties.events (λ _. ⊥) l.fn.cuts l.cuts;
 }
 
-abbrev pub decreases-loop-release : goal.decreases-loop-release
-decreases-loop-release l = room (length l.rows + 1) l.cuts
+abbrev pub decreases-loop-acquire : goal.decreases-loop-acquire
+decreases-loop-acquire l = room (length l.rows + 1) l.cuts

@@ -6,8 +6,8 @@ use Rattle.predictor.proofs.cut.cut_variables.Goals as goal
 
 pub loop-variable-preserved : goal.loop-variable-preserved
 loop-variable-preserved c = record {
-  rise = rise_maybe c.loop-variable.variable 0 (c.loop-variable.variable + 1) 0 c.loop-variable.borders.items c.add_before.new.borders.items (omega arith) (omega arith) c.in_ok-accesses.ensures.added c.loop-variable.invariant.rise;
-  few = c.in_ok-accesses.ensures.few;
+  rise = rise_maybe c.loop-variable.variable 0 (c.loop-variable.variable + 1) 0 c.loop-variable.borders.items c.add_before.new.borders.items (omega arith) (omega arith) c.in_ok-cost.ensures.added c.loop-variable.invariant.rise;
+  few = c.in_ok-cost.ensures.few;
 }
 
 pub returns-clause-rise : goal.returns-clause-rise

@@ -1,4 +1,4 @@
-use Rattle.std.proofs.Common.{◌≡◌, ◌<◌, ℕ, List, Some, All, length, sym, subst, ◌∙◌}
+use Rattle.std.proofs.Common.{◌≡◌, ◌<◌, ℕ, Some, All, length, sym, subst, ◌∙◌}
 use Rattle.std.specs.List.{AllZip}
 use Rattle.trace_laws.specs.Kept.{AreKept}
 use Rattle.trace_laws.specs.Trace.{thread_at}
@@ -6,7 +6,7 @@ use Rattle.trace_laws.specs.Traces.{History}
 use Rattle.script_machine.specs.Held.{Held, meaning}
 use Rattle.replayer.specs.Reorders.{FollowsKeep}
 use Rattle.replayer.specs.Replays.{ReplaysTo}
-use Rattle.replayer.specs.Replayed.{IsReplayOf, keep_in, picks_in}
+use Rattle.replayer.specs.Replayed.{keep_in, picks_in}
 use Rattle.replayer.proofs.KeptFindings.{keep_long, kept_correct, finding_within, is_replay_of, threads_run}
 use Rattle.replayer.proofs.finding.replay.Goals as goal
 

@@ -3,7 +3,7 @@ use Rattle.std.specs.Io.KnownBytes.{Consumes}
 use Rattle.std.proofs.KnownBytes.{Appends-nil}
 use Rattle.syncp.specs.Tasks.{Run}
 use Rattle.syncp.proofs.Ran.{nothing_written, reading_completes, run_not_refused}
-use Rattle.syncp.proofs.WholeRuns.{run_explains}
+use Rattle.syncp.proofs.WrittenRuns.{run_explains}
 use Rattle.syncp.proofs.run_mode.run_scripts.Goals as goal
 
 pub returns-in-Err-clause-complete : goal.returns-in-Err-clause-complete

@@ -1,13 +1,16 @@
 use Rattle.std.proofs.Common.{get_or}
 use Rattle.std.proofs.lemmas.List.Elements.{Contains-get_or}
-use Rattle.pattern_walk.proofs.Moving.{number_within, acquires_within, none_read, nearer_read, moves_read}
+use Rattle.pattern_walk.proofs.Moving.{number_within, acquires_within, initial_read, none_read, nearer_read, moves_read}
 use Rattle.pattern_walk.proofs.instance.Instance.advance.Goals as goal
 
 pub acquires-acquires-requires : goal.acquires-acquires-requires
 acquires-acquires-requires c = number_within c.args.classes.now c.args.pattern.now c.requires.pattern c.args.self.now.positions.items c.args.self.now.picks.items c.args.cursor.now c.requires.underway c.classes.result.now c.args.i c.classes.ensures c.requires.number
 
-pub first_outside-requires : goal.first_outside-requires
-first_outside-requires c = acquires_within c.args.classes.now c.args.pattern.now c.requires.pattern c.args.self.now.positions.items c.args.self.now.picks.items c.args.cursor.now c.requires.underway c.classes.result.now c.args.i c.classes.ensures c.requires.number c.acquires-acquires.result.now c.index.result.now c.acquires-acquires.ensures c.index.ensures
+pub first_outside-requires-clause-acquires : goal.first_outside-requires-clause-acquires
+first_outside-requires-clause-acquires c = acquires_within c.args.classes.now c.args.pattern.now c.requires.pattern c.args.self.now.positions.items c.args.self.now.picks.items c.args.cursor.now c.requires.underway c.classes.result.now c.args.i c.classes.ensures c.requires.number c.acquires-acquires.result.now c.index.result.now c.acquires-acquires.ensures c.index.ensures
+
+pub first_outside-requires-clause-initial : goal.first_outside-requires-clause-initial
+first_outside-requires-clause-initial c = initial_read c.args.classes.now c.args.pattern.now c.requires.pattern c.args.self.now.positions.items c.args.self.now.picks.items c.args.cursor.now c.requires.underway c.classes.result.now c.args.i c.classes.ensures c.requires.number c.acquires-acquires.result.now c.index.result.now c.acquires-acquires.ensures c.index.ensures
 
 pub returns-in_default-clause-none : goal.returns-in_default-clause-none
 returns-in_default-clause-none c = λ is. none_read c.args.classes.now c.args.pattern.now c.requires.pattern c.args.self.now.positions.items c.args.self.now.picks.items c.args.cursor.now c.requires.underway c.classes.result.now c.args.i c.classes.ensures c.requires.number c.acquires-acquires.result.now c.index.result.now c.acquires-acquires.ensures c.index.ensures c.in_default.ensures.none

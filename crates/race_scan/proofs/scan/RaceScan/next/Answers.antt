@@ -4,7 +4,7 @@ use Rattle.sp_base.specs.declared.limits.TheConstants.{MAX_EVENTS}
 use Rattle.trace_laws.specs.Traces.{History}
 use Rattle.trace_laws.specs.declared.finding.Race.{Race}
 use Rattle.trace_laws.specs.Findings.{IsKeep, by_reorderings}
-use Rattle.trace_index.proofs.Accessing.{access_within}
+use Rattle.trace_laws.proofs.Places.{access_within}
 use Rattle.race_scan.specs.Scans.{Scan}
 use Rattle.race_scan.specs.Listed.{IsFirstListed}
 use Rattle.race_scan.proofs.Keeping.{next_race}

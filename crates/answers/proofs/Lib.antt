@@ -1,0 +1,9 @@
+pub mod GivenNames
+pub mod KeptLines
+pub mod Witnessing
+pub mod Reporting
+pub mod Replaying
+pub mod ReplayNames
+pub mod CompleteRuns
+pub mod EndNames
+pub mod WholeRuns

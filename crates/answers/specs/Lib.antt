@@ -1,0 +1,5 @@
+pub mod Reported
+pub mod Witnesses
+pub mod Replays
+pub mod Runs
+pub mod Benches
