@@ -14,6 +14,7 @@ mod links;
 mod locals;
 mod mending;
 mod places;
+mod rows;
 mod sections;
 mod table;
 mod ties;
