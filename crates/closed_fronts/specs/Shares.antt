@@ -1,5 +1,5 @@
 -- What rows keep: a region of cuts, and for each place where its row lies there.
-use Rattle.std.specs.Prelude.{◌≡◌, ◌<◌, ◌≤◌, ◌+◌, ℕ, List, [], ◌∷◌, length, slice_index, slice_range, slice_set}
+use Rattle.std.specs.Prelude.{◌<◌, ◌≤◌, ◌+◌, ℕ, List, [], ◌∷◌, length, slice_index, slice_range, slice_set}
 use Rattle.sp_base.specs.declared.limits.TheConstants.{MAX_EVENTS}
 use Rattle.closed_fronts.specs.Tables.{AreTold}
 use Rattle.closed_fronts.specs.declared.rows.Share.{Share}

@@ -1,7 +1,6 @@
-use Rattle.std.proofs.Common.{◌≡◌, ◌<◌, ◌+◌, ℕ, List, length, sym, ap, subst, ◌∙◌, arith}
+use Rattle.std.proofs.Common.{◌+◌, ℕ, List, sym, ap, ◌∙◌, arith}
 use Rattle.std.specs.Prelude.{slice_index}
 use Rattle.std.proofs.lemmas.List.{get_or_read}
-use Rattle.closed_fronts.specs.Rows.{row_in}
 use Rattle.closed_fronts.specs.Shares.{shared_row}
 use Rattle.closed_fronts.proofs.Sharing.{shared_known, shares_size, shared_own, shared_other}
 use Rattle.closed_fronts.proofs.rows.Rows.cut.Goals as goal

@@ -40,5 +40,5 @@ returns c =
     let older = k.older in
     let join : IsJoin c.args.cuts.now part c.join.new.cuts = subst (λ (xs : List ℕ). IsJoin c.args.cuts.now (slice_range xs s.start (s.start + s.size)) c.join.new.cuts) c.deref.ensures.value c.join.ensures in
     subst (λ (row : List ℕ). IsJoin c.args.cuts.now row (slice_set c.join.new.cuts s.thread c.max.result)) (sym k.row)
-        (subst (λ (v : ℕ). IsJoin c.args.cuts.now (slice_set part s.thread (c.args.place + 1)) (slice_set c.join.new.cuts s.thread v)) (sym c.max.ensures)
-            (join_raised c.args.cuts.now part c.join.new.cuts s.thread (c.args.place + 1) join (omega arith) (omega arith) (omega arith)))
+    (subst (λ (v : ℕ). IsJoin c.args.cuts.now (slice_set part s.thread (c.args.place + 1)) (slice_set c.join.new.cuts s.thread v)) (sym c.max.ensures)
+    (join_raised c.args.cuts.now part c.join.new.cuts s.thread (c.args.place + 1) join (omega arith) (omega arith) (omega arith)))

@@ -23,7 +23,7 @@ invariant_of-self c = subst (λ (xs : List ℕ). AreShares xs c.self.inside.shar
 pub invariant_of-self-in_default-push : goal.invariant_of-self-in_default-push
 invariant_of-self-in_default-push c =
     subst (λ (xs : List Share). AreShares c.extend_from_slice.new.self.items xs) (sym c.in_default-push.ensures.items)
-        (subst (λ (xs : List ℕ). AreShares xs c.self.inside.shares.items) (sym c.in_ok-extend_from_slice.ensures.items) (shares_kept c.self.inside.cuts.items c.args.cuts.now c.self.inside.shares.items c.self.invariant))
+    (subst (λ (xs : List ℕ). AreShares xs c.self.inside.shares.items) (sym c.in_ok-extend_from_slice.ensures.items) (shares_kept c.self.inside.cuts.items c.args.cuts.now c.self.inside.shares.items c.self.invariant))
 
 pub invariant_of-self-2 : goal.invariant_of-self-2
 invariant_of-self-2 c =
@@ -31,8 +31,8 @@ invariant_of-self-2 c =
     let less = c.requires.few in
     let own = c.requires.own in
     subst (λ (xs : List Share). AreShares c.extend_from_slice.new.self.items xs) (sym c.in-Ok-push.ensures.items)
-        (subst (λ (xs : List ℕ). AreShares xs (c.self.inside.shares.items ++ stored c ∷ [])) (sym c.in_ok-extend_from_slice.ensures.items)
-            (stored_share c.self.inside.cuts.items c.args.cuts.now c.self.inside.shares.items (stored c) c.self.invariant (omega arith) (start c) refl c.requires.thread (omega arith)))
+    (subst (λ (xs : List ℕ). AreShares xs (c.self.inside.shares.items ++ stored c ∷ [])) (sym c.in_ok-extend_from_slice.ensures.items)
+    (stored_share c.self.inside.cuts.items c.args.cuts.now c.self.inside.shares.items (stored c) c.self.invariant (omega arith) (start c) refl c.requires.thread (omega arith)))
 
 pub returns : goal.returns
 returns c =

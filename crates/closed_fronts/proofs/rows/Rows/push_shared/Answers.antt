@@ -25,8 +25,8 @@ returns-then-share-thread c =
     let ok = c.self.inside.shares.ok.0 in
     let next : c.len.result + 1 ≡ length c.args.self.now + 1 = omega arith in
     subst (λ (row : List ℕ). OnOk c.push_row.result (c.push_row.new.self ≡ c.args.self.now ++ row ∷ []))
-        (c.deref.ensures.value ∙ ap (λ (xs : List ℕ). slice_set xs c.args.thread (c.len.result + 1)) c.in_ok-row.ensures ∙ ap (λ (v : ℕ). slice_set (row_in c.args.self.now c.args.source) c.args.thread v) next)
-        c.push_row.ensures
+    (c.deref.ensures.value ∙ ap (λ (xs : List ℕ). slice_set xs c.args.thread (c.len.result + 1)) c.in_ok-row.ensures ∙ ap (λ (v : ℕ). slice_set (row_in c.args.self.now c.args.source) c.args.thread v) next)
+    c.push_row.ensures
 
 pub invariant_of-self : goal.invariant_of-self
 invariant_of-self c = subst (λ (xs : List Share). AreShares c.self.inside.cuts.items xs) (sym c.in_default.ensures.items) c.self.invariant
@@ -34,7 +34,7 @@ invariant_of-self c = subst (λ (xs : List Share). AreShares c.self.inside.cuts.
 pub invariant_of-self-2 : goal.invariant_of-self-2
 invariant_of-self-2 c =
     subst (λ (xs : List Share). AreShares c.self.inside.cuts.items xs) (sym c.in-Ok.ensures.items)
-        (given_share c.self.inside.cuts.items c.self.inside.shares.items c.args.self.now c.args.source c.index-share.result.now c.self.invariant c.self.view_is c.requires.few c.requires.source c.index-share.ensures)
+    (given_share c.self.inside.cuts.items c.self.inside.shares.items c.args.self.now c.args.source c.index-share.result.now c.self.invariant c.self.view_is c.requires.few c.requires.source c.index-share.ensures)
 
 pub returns : goal.returns
 returns c =
