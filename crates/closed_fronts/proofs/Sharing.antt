@@ -3,15 +3,17 @@ use Rattle.std.proofs.Common.{◌≡◌, ◌≢◌, ℕ, zero, suc, ◌+◌, ◌
 use Rattle.std.specs.Prelude.{max, slice_get, slice_index, slice_range, slice_set}
 use Rattle.std.proofs.Math.ListN.{length-set}
 use Rattle.std.proofs.lemmas.Bool.{cases_eq}
-use Rattle.std.proofs.lemmas.List.{take-append-le, drop-append-le, drop_at, take_all, set-set, set-get_or, length-take-le, length-drop, length-append, get_or-take, get_or-drop, get_or_append_left, get_or-append-add}
+use Rattle.std.proofs.lemmas.List.{take-append-le, drop-append-le, drop_at, take_all, set-set, set-get_or, length-take-le, length-drop, length-append, get_or-take, get_or-drop, get_or_append_left, get_or-append-add, ext_get_or}
 use Rattle.std.proofs.lemmas.Option.{slice_get-get_or}
 use Rattle.sp_base.specs.declared.limits.TheConstants.{MAX_EVENTS}
 use Rattle.closed_fronts.specs.declared.rows.Share.{Share}
 use Rattle.trace_laws.specs.Event.{Event}
 use Rattle.trace_laws.specs.Trace.{thread_at}
+use Rattle.trace_laws.proofs.Places.{three_way}
 use Rattle.closed_fronts.specs.Rows.{IsJoin, IsRow, AreRows, row_in}
 use Rattle.closed_fronts.specs.Shares.{shared_row, rows_from, IsShare, AreShares}
 use Rattle.closed_fronts.proofs.Told.{told_push}
+use Rattle.closed_fronts.proofs.Joins.{none_past}
 use Rattle.closed_fronts.proofs.Mends.{held_below}
 
 -- there is a row for each share
@@ -193,3 +195,22 @@ row_told events threads rows place told less = told place (row_in rows place) (s
 -- its own cut is just behind the place
 pub row_own : (events : List Event) (threads place t : ℕ) (row : List ℕ) → IsRow events threads place row → thread_at events place ≡ Some t → slice_index row t ≡ place + 1
 row_own events threads place t row is own = let within = is.within t in let below = held_below events row t place own is.holds in omega arith
+
+-- sets that are the same but for a cut are the same where that is set too
+pub alike_set : (row cuts : List ℕ) (t : ℕ) → length row ≡ length cuts → ((u : ℕ) → u ≢ t → slice_index row u ≡ slice_index cuts u) → slice_set row t (slice_index cuts t) ≡ cuts
+alike_set row cuts t size others = ext_get_or 0 (slice_set row t (slice_index cuts t)) cuts (length-set row t (slice_index cuts t) ∙ size) (λ u less. go u less (cases_eq u t))
+  where
+    go : (u : ℕ) → u < length (slice_set row t (slice_index cuts t)) → (u ≡ t) ⊎ (u ≢ t) → slice_index (slice_set row t (slice_index cuts t)) u ≡ slice_index cuts u
+    go u less (inl same) =
+        let size = length-set row t (slice_index cuts t) in
+        subst (λ (k : ℕ). slice_index (slice_set row t (slice_index cuts t)) k ≡ slice_index cuts k) (sym same) (get_or-set_same row t (slice_index cuts t) 0 (omega arith))
+    go u less (inr other) = get_or-set_other row t u (slice_index cuts t) 0 other ∙ others u other
+
+-- all other cuts are the same
+pub alike_all : (row cuts : List ℕ) (t n : ℕ) → length row ≡ length cuts → length cuts ≤ n → ((u : ℕ) → u < n → u ≢ t → slice_index row u ≡ slice_index cuts u) → (u : ℕ) → u ≢ t → slice_index row u ≡ slice_index cuts u
+alike_all row cuts t n size past below u other = go (three_way u n)
+  where
+    go : (u < n) ⊎ ((u ≡ n) ⊎ (n < u)) → slice_index row u ≡ slice_index cuts u
+    go (inl less) = below u less other
+    go (inr (inl same)) = none_past row u (omega arith) ∙ sym (none_past cuts u (omega arith))
+    go (inr (inr more)) = none_past row u (omega arith) ∙ sym (none_past cuts u (omega arith))

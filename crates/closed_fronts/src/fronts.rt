@@ -56,7 +56,13 @@ fn grow_row(ties: &Ties, rows: &Rows, cuts: &mut [u32], place: u32)
 }
 
 // The next place gets its row. There is room for a set by cuts.
-fn note_whole(ties: &Ties, rows: &mut Rows, room: &mut [u32], place: u32) -> Result<(), OutOfMemory>
+fn note_whole(
+    alloc: Global,
+    ties: &Ties,
+    rows: &mut Rows,
+    room: &mut [u32],
+    place: u32,
+) -> Result<(), OutOfMemory>
     requires rows { AreRows ties.now.events ties.now.threads rows.old }
     requires place { place < length ties.now.events }
     requires made { length rows.old ≡ place }
@@ -70,7 +76,7 @@ fn note_whole(ties: &Ties, rows: &mut Rows, room: &mut [u32], place: u32) -> Res
     room.fill(0);
     grow_row(ties, rows, room, place);
     let event = ties.event(place);
-    rows.push_row(room, event.thread.value())
+    rows.push(alloc, ties.own(place), room, event.thread.value())
 }
 
 // Whether an event acquires a lock.
@@ -151,7 +157,7 @@ fn note(
 {
     match local_source(ties, place) {
         Some(source) => note_local(alloc, ties, rows, source, place),
-        None => note_whole(ties, rows, room, place),
+        None => note_whole(alloc, ties, rows, room, place),
     }
 }
 

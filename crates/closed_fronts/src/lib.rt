@@ -17,6 +17,8 @@ mod places;
 mod rows;
 mod sections;
 mod table;
+#[cfg(test)]
+mod tests;
 mod ties;
 mod tips;
 mod torn;

@@ -1,8 +1,8 @@
 // The rows of places, of which several share what is stored.
-ghost use Rattle.std.specs.Prelude.{◌≡◌, ◌<◌, ◌≤◌, ◌+◌, [], ◌∷◌, ◌++◌, length, IfOk, OnOk, slice_index, slice_set};
+ghost use Rattle.std.specs.Prelude.{◌≡◌, ◌<◌, ◌≤◌, ◌+◌, [], ◌∷◌, ◌++◌, length, IfOk, OnOk, IfSome, IsTrue, slice_index, slice_set};
 ghost use Rattle.closed_fronts.specs.Rows.{IsJoin, row_in};
 
-use crate::joining::join;
+use crate::joining::{are_alike, join};
 use sp_base::{MAX_EVENTS, MAX_THREADS, OutOfMemory};
 use std::alloc::{AllocError, Global};
 use std::marker::Model;
@@ -86,8 +86,8 @@ impl Rows {
         Ok(row)
     }
 
-    /// The next place gets a row of its own, of which the own cut of its thread is just behind it.
-    pub fn push_row(&mut self, cuts: &[u32], thread: u16) -> Result<(), OutOfMemory>
+    // The next place gets a row that is stored by itself, with the own cut of its thread just behind it.
+    fn push_row(&mut self, cuts: &[u32], thread: u16) -> Result<(), OutOfMemory>
         requires few { length self.old < MAX_EVENTS }
         requires width { length cuts.now ≤ MAX_THREADS }
         requires thread { thread < length cuts.now }
@@ -107,6 +107,21 @@ impl Rows {
             return Err(OutOfMemory);
         };
         Ok(())
+    }
+
+    // Whether the cuts are the row of a source of the thread, but for the own cut.
+    fn is_like(&self, source: u32, cuts: &[u32], thread: u16) -> bool
+        requires source { source < length self.now }
+        requires size { length (row_in self.now source) ≡ length cuts.now }
+        ensures { IsTrue result → slice_set (row_in self.now source) thread (slice_index cuts.now thread) ≡ cuts.now }
+    {
+        let share = self.shares[source as usize];
+        if thread != share.thread {
+            return false;
+        }
+        let start = share.start as usize;
+        let row = &self.cuts[start..start + share.size as usize];
+        are_alike(row, cuts, thread)
     }
 
     /// The next place, of the thread, gets the row of a source, but that its own cut is just behind it. If the source is of
@@ -133,5 +148,30 @@ impl Rows {
             return Err(OutOfMemory);
         };
         Ok(())
+    }
+
+    /// The next place, of the thread, gets a row, of which the own cut is just behind it. If a source is given that is of
+    /// the thread too, and whose row differs in no other cut, the places share the row.
+    pub fn push(
+        &mut self,
+        alloc: Global,
+        source: Option<u32>,
+        cuts: &[u32],
+        thread: u16,
+    ) -> Result<(), OutOfMemory>
+        requires few { length self.old < MAX_EVENTS }
+        requires source { IfSome source (λ q. (q < length self.old) × (length (row_in self.old q) ≡ length cuts.now)) }
+        requires width { length cuts.now ≤ MAX_THREADS }
+        requires thread { thread < length cuts.now }
+        requires own { slice_index cuts.now thread ≡ length self.old + 1 }
+        ensures { OnOk result (self.new ≡ self.old ++ cuts.now ∷ []) }
+    {
+        let Some(source) = source else {
+            return self.push_row(cuts, thread);
+        };
+        if !self.is_like(source, cuts, thread) {
+            return self.push_row(cuts, thread);
+        }
+        self.push_shared(alloc, source, thread)
     }
 }
