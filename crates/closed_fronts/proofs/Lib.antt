@@ -8,6 +8,7 @@ pub mod Admissions
 pub mod Joins
 pub mod Mends
 pub mod Gains
+pub mod Sharing
 pub mod Told
 pub mod Opens
 pub mod Leads

@@ -7,6 +7,7 @@ pub mod Cuts
 pub mod Needs
 pub mod Tables
 pub mod Rows
+pub mod Shares
 pub mod Linked
 pub mod Tied
 pub mod Built

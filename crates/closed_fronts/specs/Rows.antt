@@ -1,6 +1,5 @@
 -- Sets of places by a cut for each thread.
-use Rattle.std.specs.Prelude.{◌≡◌, ◌<◌, ◌≤◌, ◌+◌, ℕ, max, List, Vec, Bool, IsTrue, Some, length, slice_index}
-use Rattle.std.specs.declared.alloc.Global.{Global}
+use Rattle.std.specs.Prelude.{◌≡◌, ◌<◌, ◌≤◌, ◌+◌, ℕ, max, List, [], Bool, IsTrue, Some, length, slice_index, slice_index_or}
 use Rattle.trace_laws.specs.Event.{Event}
 use Rattle.trace_laws.specs.Trace.{thread_at, op_at, Acquires, Reads, Before, IsLastWrite, IsReleaseOf, Excludes}
 use Rattle.trace_laws.specs.Closed.{ClosedSet, HoldsAll}
@@ -63,8 +62,12 @@ abbrev pub IsImplied : List Event → ℕ → ℕ → Type 0
 IsImplied events place i = (set : ℕ → Bool) → ClosedSet events set → HoldsAll (λ j. Before events j place) set → IsTrue (set i)
 
 -- for each place its row
-abbrev pub AreRows : List Event → ℕ → List (Vec ℕ Global) → Type 0
-AreRows events threads rows = AreTold (λ p (v : Vec ℕ Global). IsRow events threads p v.items) rows
+abbrev pub AreRows : List Event → ℕ → List (List ℕ) → Type 0
+AreRows events threads rows = AreTold (IsRow events threads) rows
+
+-- the row of a place
+abbrev pub row_in : List (List ℕ) → ℕ → List ℕ
+row_in rows place = slice_index_or rows place []
 
 -- the acquire a is in the set, and the cut of its thread is this one
 pub record IsAcquireBelow (events : List Event) (cuts : List ℕ) (a cut : ℕ) : Type 0 where

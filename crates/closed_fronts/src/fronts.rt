@@ -1,20 +1,21 @@
 //! The closures of the places of a trace.
 
-ghost use Rattle.std.specs.Prelude.{ℕ, ◌≡◌, ◌<◌, ◌≤◌, ◌+◌, ◌↔◌, length, IfOk, IfSome, IfNone, IsTrue, false, Some, slice_get, slice_index};
+ghost use Rattle.std.specs.Prelude.{ℕ, ◌≡◌, ◌<◌, ◌≤◌, ◌+◌, ◌↔◌, length, IfOk, OnOk, IfSome, IfNone, IsTrue, false, Some, slice_get, slice_index};
 ghost use Rattle.trace_laws.specs.Trace.{thread_at, Before};
 ghost use Rattle.trace_laws.specs.Traces.{IsTrace};
 ghost use Rattle.trace_laws.specs.Findings.{HasCount};
 ghost use Rattle.closed_fronts.specs.Cuts.{IsHeld, Admits};
 ghost use Rattle.closed_fronts.specs.Tables.{IsAcquire, IsLatest, IsOwnBefore, IsJoinBefore, IsOuter, IsOpened, IsNextRow};
-ghost use Rattle.closed_fronts.specs.Rows.{IsSteady, IsMended, IsTorn, IsRow, AreRows, IsBelowCut, IsLocalBehind, IsImplied};
+ghost use Rattle.closed_fronts.specs.Rows.{AreZero, IsSteady, IsMended, IsTorn, IsRow, AreRows, row_in, IsBelowCut, IsLocalBehind, IsImplied};
 ghost use Rattle.closed_fronts.specs.Needs.{IsWriterOfRead};
 
 use crate::mending::{admit_before, admit_itself, admit_row, admit_writer, mend};
 use crate::places::Places;
+use crate::rows::Rows;
 use crate::ties::Ties;
 use crate::torn::torn;
 use sp_base::OutOfMemory;
-use std::alloc::{AllocError, Global};
+use std::alloc::Global;
 use std::marker::Model;
 use trace_laws::{Event, Op, Trace};
 
@@ -24,7 +25,7 @@ use trace_laws::{Event, Op, Trace};
 #[derive(Drop)]
 pub struct Fronts<'a> {
     ties: Ties<'a>,
-    rows: Vec<Vec<u32>>,
+    rows: Rows,
 }
 
 impl<'a> Model for Fronts<'a> {
@@ -40,12 +41,12 @@ impl<'a> Model for Fronts<'a> {
 }
 
 // The empty set becomes the row of a place, where there is one for each place before it.
-fn grow_row(ties: &Ties, rows: &[Vec<u32>], cuts: &mut [u32], place: u32)
+fn grow_row(ties: &Ties, rows: &Rows, cuts: &mut [u32], place: u32)
     requires rows { AreRows ties.now.events ties.now.threads rows.now }
     requires place { place < length ties.now.events }
     requires made { length rows.now ≡ place }
     requires size { length cuts.old ≡ ties.now.threads }
-    requires empty { (t : ℕ) → slice_index cuts.old t ≡ 0 }
+    requires empty { AreZero cuts.old }
     ensures { IsRow ties.now.events ties.now.threads place cuts.new }
 {
     let _ = admit_before(ties, rows, cuts, place);
@@ -54,21 +55,28 @@ fn grow_row(ties: &Ties, rows: &[Vec<u32>], cuts: &mut [u32], place: u32)
     mend(ties, rows, cuts);
 }
 
-// The row of a place, where there is one for each place before it.
-fn whole_row(
+// The next place gets its row. There is room for a set by cuts.
+fn note_whole(
     alloc: Global,
     ties: &Ties,
-    rows: &[Vec<u32>],
+    rows: &mut Rows,
+    room: &mut [u32],
     place: u32,
-) -> Result<Vec<u32>, AllocError>
-    requires rows { AreRows ties.now.events ties.now.threads rows.now }
+) -> Result<(), OutOfMemory>
+    requires rows { AreRows ties.now.events ties.now.threads rows.old }
     requires place { place < length ties.now.events }
-    requires made { length rows.now ≡ place }
-    ensures { IfOk result (λ row. IsRow ties.now.events ties.now.threads place row.items) }
+    requires made { length rows.old ≡ place }
+    requires room { length room.old ≡ ties.now.threads }
+    ensures rows { OnOk result (AreRows ties.now.events ties.now.threads rows.new) }
+    ensures made { OnOk result (length rows.new ≡ place + 1) }
+    ensures room { length room.new ≡ ties.now.threads }
 {
-    let mut cuts = vec![in alloc; 0; ties.threads() as usize]?;
-    grow_row(ties, rows, &mut cuts, place);
-    Ok(cuts)
+    // A trace is lawful, as its length says.
+    let _ = ties.len();
+    room.fill(0);
+    grow_row(ties, rows, room, place);
+    let event = ties.event(place);
+    rows.push(alloc, ties.own(place), room, event.thread.value())
 }
 
 // Whether an event acquires a lock.
@@ -110,73 +118,70 @@ fn local_source(ties: &Ties, place: u32) -> Option<u32>
     ties.own(place)
 }
 
-// The row of the source becomes that of the place.
-fn extend_row(ties: &Ties, cuts: &mut [u32], source: u32, place: u32)
+// The next place, which needs nothing but its source, gets its row.
+fn note_local(
+    alloc: Global,
+    ties: &Ties,
+    rows: &mut Rows,
+    source: u32,
+    place: u32,
+) -> Result<(), OutOfMemory>
+    requires rows { AreRows ties.now.events ties.now.threads rows.old }
     requires place { place < length ties.now.events }
+    requires made { length rows.old ≡ place }
     requires local { IsLocalBehind ties.now.events place source }
-    requires row { IsRow ties.now.events ties.now.threads source cuts.old }
-    ensures { IsRow ties.now.events ties.now.threads place cuts.new }
+    ensures rows { OnOk result (AreRows ties.now.events ties.now.threads rows.new) }
+    ensures made { OnOk result (length rows.new ≡ place + 1) }
 {
     // A trace is lawful, as its length says.
     let _ = ties.len();
     let event = ties.event(place);
-    cuts[event.thread.value() as usize] = place + 1;
+    rows.push_shared(alloc, source, event.thread.value())
 }
 
-// The row of a place that needs nothing but its source.
-fn local_row(
+// Notes the next place: it gets its row. There is room for a set by cuts.
+fn note(
     alloc: Global,
     ties: &Ties,
-    rows: &[Vec<u32>],
-    source: u32,
+    rows: &mut Rows,
+    room: &mut [u32],
     place: u32,
-) -> Result<Vec<u32>, AllocError>
-    requires rows { AreRows ties.now.events ties.now.threads rows.now }
+) -> Result<(), OutOfMemory>
+    requires rows { AreRows ties.now.events ties.now.threads rows.old }
     requires place { place < length ties.now.events }
-    requires made { length rows.now ≡ place }
-    requires local { IsLocalBehind ties.now.events place source }
-    ensures { IfOk result (λ row. IsRow ties.now.events ties.now.threads place row.items) }
-{
-    let mut cuts = rows[source as usize].as_slice().to_vec(alloc)?;
-    extend_row(ties, &mut cuts, source, place);
-    Ok(cuts)
-}
-
-// The row of a place, where there is one for each place before it.
-fn row_of(alloc: Global, ties: &Ties, rows: &[Vec<u32>], place: u32) -> Result<Vec<u32>, AllocError>
-    requires rows { AreRows ties.now.events ties.now.threads rows.now }
-    requires place { place < length ties.now.events }
-    requires made { length rows.now ≡ place }
-    ensures { IfOk result (λ row. IsRow ties.now.events ties.now.threads place row.items) }
+    requires made { length rows.old ≡ place }
+    requires room { length room.old ≡ ties.now.threads }
+    ensures rows { OnOk result (AreRows ties.now.events ties.now.threads rows.new) }
+    ensures made { OnOk result (length rows.new ≡ place + 1) }
+    ensures room { length room.new ≡ ties.now.threads }
 {
     match local_source(ties, place) {
-        Some(source) => local_row(alloc, ties, rows, source, place),
-        None => whole_row(alloc, ties, rows, place),
+        Some(source) => note_local(alloc, ties, rows, source, place),
+        None => note_whole(alloc, ties, rows, room, place),
     }
 }
 
-// Whether a place is in a set by cuts.
-fn is_below(ties: &Ties, cuts: &[u32], place: u32) -> bool
-    requires size { length cuts.now ≡ ties.now.threads }
+// Whether a place is in the row of a source.
+fn is_below(ties: &Ties, rows: &Rows, source: u32, place: u32) -> bool
+    requires source { source < length rows.now }
+    requires size { length (row_in rows.now source) ≡ ties.now.threads }
     requires place { place < length ties.now.events }
-    ensures { IsTrue result → IsHeld ties.now.events cuts.now place }
+    ensures { IsTrue result → IsHeld ties.now.events (row_in rows.now source) place }
 {
     let event = ties.event(place);
-    place < cuts[event.thread.value() as usize]
+    place < rows.cut(source, event.thread.value())
 }
 
 // The rows of all places.
-fn rows_of(alloc: Global, ties: &Ties) -> Result<Vec<Vec<u32>>, OutOfMemory>
-    ensures size { IfOk result (λ rows. length rows.items ≡ length ties.now.events) }
-    ensures rows { IfOk result (λ rows. AreRows ties.now.events ties.now.threads rows.items) }
+fn rows_of(alloc: Global, ties: &Ties) -> Result<Rows, OutOfMemory>
+    ensures size { IfOk result (λ rows. length rows ≡ length ties.now.events) }
+    ensures rows { IfOk result (λ rows. AreRows ties.now.events ties.now.threads rows) }
     ensures trace { IsTrace ties.now.events ties.now.threads }
 {
-    let mut rows = Vec::with_capacity(alloc, ties.len() as usize)?;
+    let mut rows = Rows::new(alloc, ties.len(), ties.threads())?;
+    let mut room = vec![in alloc; 0; ties.threads() as usize]?;
     for place in 0..ties.len() {
-        let row = row_of(alloc, ties, &rows, place)?;
-        let Ok(()) = rows.push(row) else {
-            return Err(OutOfMemory);
-        };
+        note(alloc, ties, &mut rows, &mut room, place)?;
     }
     Ok(rows)
 }
@@ -284,7 +289,7 @@ impl<'a> Fronts<'a> {
         let Some(source) = self.ties.own(later) else {
             return false;
         };
-        is_below(&self.ties, &self.rows[source as usize], place)
+        is_below(&self.ties, &self.rows, source, place)
     }
 
     /// The acquire of some section that the set of the cuts tears. The search begins at a thread, and goes round.

@@ -14,8 +14,11 @@ mod links;
 mod locals;
 mod mending;
 mod places;
+mod rows;
 mod sections;
 mod table;
+#[cfg(test)]
+mod tests;
 mod ties;
 mod tips;
 mod torn;

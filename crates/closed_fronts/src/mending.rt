@@ -5,12 +5,13 @@ ghost use Rattle.closed_fronts.specs.Cuts.{Admits};
 ghost use Rattle.closed_fronts.specs.Needs.{IsWriterOfRead};
 ghost use Rattle.closed_fronts.specs.Rows.{AreZero, IsSteady, AreWithin, IsMended, IsReady, AreRows};
 
-use crate::joining::{are_zero, join};
+use crate::joining::are_zero;
+use crate::rows::Rows;
 use crate::ties::Ties;
 use crate::torn::torn;
 
 /// Admits a place, and all that is in each closed set that holds it.
-pub fn admit_row(ties: &Ties, rows: &[Vec<u32>], cuts: &mut [u32], place: u32)
+pub fn admit_row(ties: &Ties, rows: &Rows, cuts: &mut [u32], place: u32)
     requires rows { AreRows ties.now.events ties.now.threads rows.now }
     requires place { place < length rows.now }
     requires steady { IsSteady ties.now.events ties.now.threads cuts.old }
@@ -20,11 +21,11 @@ pub fn admit_row(ties: &Ties, rows: &[Vec<u32>], cuts: &mut [u32], place: u32)
     ensures admits { Admits ties.now.events (λ i. i ≡ place) cuts.old cuts.new }
     ensures mended { AreZero cuts.old → IsMended ties.now.events cuts.new }
 {
-    join(cuts, &rows[place as usize]);
+    rows.join_into(cuts, place);
 }
 
 // The same for a place that may be given.
-fn admit_given(ties: &Ties, rows: &[Vec<u32>], cuts: &mut [u32], place: Option<u32>)
+fn admit_given(ties: &Ties, rows: &Rows, cuts: &mut [u32], place: Option<u32>)
     requires rows { AreRows ties.now.events ties.now.threads rows.now }
     requires place { IfSome place (λ p. p < length rows.now) }
     requires steady { IsSteady ties.now.events ties.now.threads cuts.old }
@@ -41,7 +42,7 @@ fn admit_given(ties: &Ties, rows: &[Vec<u32>], cuts: &mut [u32], place: Option<u
 }
 
 /// The set becomes closed under the rule of releases too.
-pub fn mend(ties: &Ties, rows: &[Vec<u32>], cuts: &mut [u32])
+pub fn mend(ties: &Ties, rows: &Rows, cuts: &mut [u32])
     requires rows { AreRows ties.now.events ties.now.threads rows.now }
     requires steady { IsSteady ties.now.events ties.now.threads cuts.old }
     requires within { AreWithin cuts.old (length rows.now + 1) }
@@ -64,7 +65,7 @@ pub fn mend(ties: &Ties, rows: &[Vec<u32>], cuts: &mut [u32])
 
 /// Admits the places before the place in program order. The answer is whether the set is known to be closed under the rule
 /// of releases too, as it is where it was empty and one row was joined.
-pub fn admit_before(ties: &Ties, rows: &[Vec<u32>], cuts: &mut [u32], place: u32) -> bool
+pub fn admit_before(ties: &Ties, rows: &Rows, cuts: &mut [u32], place: u32) -> bool
     requires rows { AreRows ties.now.events ties.now.threads rows.now }
     requires place { place < length ties.now.events }
     requires made { place ≤ length rows.now }
@@ -87,7 +88,7 @@ pub fn admit_before(ties: &Ties, rows: &[Vec<u32>], cuts: &mut [u32], place: u32
 }
 
 /// Admits the writer of the place.
-pub fn admit_writer(ties: &Ties, rows: &[Vec<u32>], cuts: &mut [u32], place: u32)
+pub fn admit_writer(ties: &Ties, rows: &Rows, cuts: &mut [u32], place: u32)
     requires rows { AreRows ties.now.events ties.now.threads rows.now }
     requires place { place < length ties.now.events }
     requires made { place ≤ length rows.now }

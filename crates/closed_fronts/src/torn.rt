@@ -12,13 +12,13 @@ fn is_torn(ties: &Ties, cuts: &[u32], acquire: u32, cut: u32) -> bool
     requires acquire { IsAcquireBelow ties.now.events cuts.now acquire cut }
     ensures { IsTrue result ↔ IsTorn ties.now.events cuts.now acquire }
 {
+    if !is_below_some(ties.next(acquire), cuts) {
+        return false;
+    }
     let Some(release) = ties.release(acquire) else {
         return false;
     };
-    if release < cut {
-        return false;
-    }
-    is_below_some(ties.next(acquire), cuts)
+    cut <= release
 }
 
 // The acquire of the latest torn section of the thread.

@@ -1,20 +1,14 @@
 use Rattle.std.proofs.Common.{◌≡◌, ℕ, List, length, sym, ap, subst, arith}
-use Rattle.std.specs.Prelude.{Vec}
-use Rattle.std.specs.declared.alloc.Global.{Global}
 use Rattle.trace_laws.specs.Traces.{History}
 use Rattle.closed_fronts.specs.Rows.{AreRows, IsSteady}
 use Rattle.closed_fronts.proofs.Mends.{cut_within}
 use Rattle.closed_fronts.proofs.fronts.Fronts.admit_before.Goals as goal
-
-pub admit_before-requires-clause-rows : goal.admit_before-requires-clause-rows
-admit_before-requires-clause-rows c = subst (λ (xs : List (Vec ℕ Global)). AreRows c.self.inside.ties.events c.self.inside.ties.threads xs) (sym c.deref.ensures.value) c.self.invariant.rows
 
 pub admit_before-requires-clause-within : goal.admit_before-requires-clause-within
 admit_before-requires-clause-within c = λ t.
     let steady = subst (λ (h : History). IsSteady h.events h.threads c.args.cuts.now) (sym c.self.view_is) c.requires.steady in
     let within = cut_within c.self.inside.ties.events c.self.inside.ties.threads c.args.cuts.now steady t in
     let size = c.self.invariant.size in
-    let same : length c.deref.result.now ≡ length c.self.inside.rows.items = ap (λ (xs : List (Vec ℕ Global)). length xs) c.deref.ensures.value in
     omega arith
 
 pub returns-clause-admits : goal.returns-clause-admits
