@@ -1,4 +1,4 @@
--- The mode `bench`: what is written of a trace that is drawn from a seed.
+-- The mode `bench`, which writes how much is found in a trace that is drawn from a seed.
 use Rattle.std.specs.Prelude.{◌≡◌, ℕ, false, List, [], length}
 use Rattle.trace_laws.specs.Findings.{Found}
 use Rattle.trace_laws.specs.Traces.{History}

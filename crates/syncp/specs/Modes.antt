@@ -1,4 +1,4 @@
--- The modes: what each is asked for by the words.
+-- The tasks of the modes, by what the words say.
 use Rattle.command_words.specs.declared.mode.Mode.{Mode}
 use Rattle.command_words.specs.declared.mode.Mode.TheVariants as mode
 use Rattle.command_words.specs.declared.words.Words.{Words}

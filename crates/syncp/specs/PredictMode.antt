@@ -1,4 +1,4 @@
--- The mode `predict`: the report of a trace.
+-- The mode `predict`, which writes the report of a trace.
 use Rattle.std.specs.Prelude.{ℕ, Bool, true, false, List}
 use Rattle.std_text.specs.Framing.{Progress}
 use Rattle.predictor.specs.Predictions.{HasFewPatterns}

@@ -1,4 +1,4 @@
--- The mode `record`: the trace that is recorded of a script.
+-- The mode `record`, which writes the trace that is recorded of a script.
 use Rattle.std.specs.Prelude.{◌≡◌, ◌≤◌, ℕ, true, false, List, length}
 use Rattle.sp_base.specs.declared.limits.TheConstants.{MAX_INPUT}
 use Rattle.trace_laws.specs.Event.{Event}

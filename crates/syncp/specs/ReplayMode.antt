@@ -1,4 +1,4 @@
--- The mode `replay`: an input of a script and a trace that is a run of it, and the replays of what is found in it.
+-- The mode `replay`, which reads a script and a trace that is a run of it, and writes the replays of what is found in it.
 use Rattle.std.specs.Prelude.{◌≡◌, ◌≤◌, ◌⊎◌, ℕ, Bool, true, false, List, [], length, nat_lt, Result, Ok, Err}
 use Rattle.sp_base.specs.declared.limits.TheConstants.{MAX_INPUT}
 use Rattle.trace_laws.specs.Event.{Event}

@@ -1,4 +1,4 @@
--- The mode `run`: a run of the script that an input is, with all that is written of it.
+-- The mode `run`, which writes the trace that is recorded of a script and all that is found in it.
 use Rattle.std.specs.Prelude.{◌≡◌, ◌≤◌, ◌⊎◌, ℕ, Bool, true, List, length}
 use Rattle.sp_base.specs.Moves.{IsFront}
 use Rattle.sp_base.specs.declared.limits.TheConstants.{MAX_INPUT}

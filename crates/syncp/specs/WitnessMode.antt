@@ -1,4 +1,4 @@
--- The mode `witness`: the witness of a finding of a trace.
+-- The mode `witness`, which writes the witness of a finding of a trace.
 use Rattle.std.specs.Prelude.{◌≡◌, ℕ, true, false, List}
 use Rattle.std_text.specs.Framing.{Progress}
 use Rattle.predictor.specs.Predictions.{HasFewPatterns}

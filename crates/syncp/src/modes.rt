@@ -1,4 +1,4 @@
-// The modes: what each does.
+// What each mode comes to.
 ghost use Rattle.std.specs.Prelude.{◌≡◌, List, ℕ};
 ghost use Rattle.std.specs.Io.KnownBytes.{IsAtEnd};
 ghost use Rattle.sp_base.specs.Causes.{Rose};
