@@ -19,7 +19,7 @@ TellsLine ErrFailed f line = (line ≡ fault_line f) ⊎ (IsFront line (fault_li
 
 -- the input is refused with a fault of the status, whose line is told; nothing is written to `out`, or where there are too many
 -- patterns what then stands in place of the output
-pub record Refuses (task : Task) (Ended ErrFailed : Type 0) (status : Status) (input text line : List ℕ) : Type 0 where
+pub record RefusesWith (task : Task) (Ended ErrFailed : Type 0) (status : Status) (input text line : List ℕ) : Type 0 where
   pub cause : Fault
   pub known : IsRefusalOf task Ended cause input text
   pub status_is : status_of cause ≡ status
@@ -30,8 +30,8 @@ abbrev pub Means : Task → Type 0 → Type 0 → Status → List ℕ → List �
 Means task Ended ErrFailed Clean input text line = IsOutputOf task input text false × Ended × (line ≡ [])
 Means task Ended ErrFailed Found input text line = IsOutputOf task input text true × Ended × (line ≡ [])
 Means task Ended ErrFailed Usage input text line = ⊥
-Means task Ended ErrFailed Refused input text line = Refuses task Ended ErrFailed Refused input text line
-Means task Ended ErrFailed Limit input text line = Refuses task Ended ErrFailed Limit input text line
+Means task Ended ErrFailed Refused input text line = RefusesWith task Ended ErrFailed Refused input text line
+Means task Ended ErrFailed Limit input text line = RefusesWith task Ended ErrFailed Limit input text line
 Means task Ended ErrFailed ReadFault input text line = HasNoFaultIn task input × (text ≡ []) × TellsLine ErrFailed fault.Read line
 Means task Ended ErrFailed WriteFault input text line = IsFrontOf task input text × Ended × TellsLine ErrFailed fault.Write line
 Means task Ended ErrFailed NoMemory input text line = ((text ≡ []) ⊎ (IsFrontOf task input text × Ended)) × ((f : Fault) × IsFront line (fault_line f))
