@@ -5,28 +5,9 @@ use Rattle.syncp.specs.declared.outcome.Fault.{Fault}
 use Rattle.syncp.specs.declared.outcome.Fault.TheVariants as fault
 use Rattle.syncp.specs.declared.outcome.Outcome.{Outcome}
 use Rattle.syncp.specs.declared.outcome.Outcome.TheVariants as outcome
-use Rattle.syncp.specs.Modes.{IsOutputOf, IsRefusedIn, MayWrite}
 use Rattle.syncp.specs.Outcome.{EndsAnswer, Explains, IsAnswered, IsDone, Makes}
-use Rattle.syncp.specs.Tasks.{Task, Predict, Record, Witness, Replay, Run, Bench}
-use Rattle.syncp.proofs.Ran.{memory_answers, nothing_written, reading_completes}
-
--- an output may be written
-may_write : (task : Task) (input text : List ℕ) (found : Bool) → IsOutputOf task input text found → MayWrite task input text
-may_write (Predict size) input text found is = (found, is)
-may_write Record input text found is = (found, is)
-may_write (Witness size number) input text found is = (found, is)
-may_write (Replay size) input text found is = (found, is)
-may_write (Run size) input text found is = inl (found, is)
-may_write (Bench size seed events) input text found is = (found, is)
-
--- the whole output answers the task
-done_answers : (task : Task) (found : Bool) → IsAnswered task (outcome.Done found)
-done_answers (Predict size) found = inl tt
-done_answers Record found = inl tt
-done_answers (Witness size number) found = inl tt
-done_answers (Replay size) found = inl tt
-done_answers (Run size) found = inl tt
-done_answers (Bench size seed events) found = inl tt
+use Rattle.syncp.specs.Tasks.{Task, IsOutputOf, IsRefusedIn}
+use Rattle.syncp.proofs.Ran.{done_answers, memory_answers, nothing_written, reading_completes}
 
 module _ (task : Task) (Ended : Type 0) (input : List ℕ) where
   -- what was written of an output explains how the call ended
@@ -34,18 +15,18 @@ module _ (task : Task) (Ended : Type 0) (input : List ℕ) where
   explained (Ok answer) o text makes ended (inl (is, whole)) =
       subst (λ x. Explains task Ended x input text) (sym is) (subst (λ t. IsOutputOf task input t answer.1) (sym whole) makes)
   explained (Ok answer) o text makes ended (inr (inl is, front)) =
-      subst (λ x. Explains task Ended x input text) (sym is) ((answer.0, may_write task input answer.0 answer.1 makes, front), ended)
+      subst (λ x. Explains task Ended x input text) (sym is) ((answer.0, inl (answer.1, makes), front), ended)
   explained (Ok answer) o text makes ended (inr (inr is, front)) =
-      subst (λ x. Explains task Ended x input text) (sym is) (inr ((answer.0, may_write task input answer.0 answer.1 makes, front), ended))
+      subst (λ x. Explains task Ended x input text) (sym is) (inr ((answer.0, inl (answer.1, makes), front), ended))
   explained (Err f) o text makes ended (is, none) =
       subst (λ x. Explains task Ended x input text) (sym is) (subst (λ t. Explains task Ended (outcome.Refused f) input t) (sym none) (nothing_written task Ended f input makes))
 
   -- an input that is not refused is answered, unless a fault comes from outside
   pub completes : (answer : Result (List ℕ × Bool) Fault) (o : Outcome) (text : List ℕ) → Makes task Ended answer input → EndsAnswer answer o text → ((f : Fault) → IsRefusedIn task Ended f input → ⊥)
       → (answer ≡ Err fault.Read → ⊥) → (o ≡ outcome.Refused fault.Write → ⊥) → IsAnswered task o
-  completes (Ok answer) o text makes (inl (is, whole)) never read write = subst (IsAnswered task) (sym is) (done_answers task answer.1)
+  completes (Ok answer) o text makes (inl (is, whole)) never read write = subst (IsAnswered task) (sym is) (done_answers task.passes answer.1)
   completes (Ok answer) o text makes (inr (inl is, front)) never read write = absurd (write is)
-  completes (Ok answer) o text makes (inr (inr is, front)) never read write = subst (IsAnswered task) (sym is) (memory_answers task)
+  completes (Ok answer) o text makes (inr (inr is, front)) never read write = subst (IsAnswered task) (sym is) (memory_answers task.passes)
   completes (Err f) o text makes (is, none) never read write = subst (IsAnswered task) (sym is) (reading_completes task Ended input f (never f) makes (λ e. read (ap Err e)))
 
   -- a fault of the sink is none that was known before

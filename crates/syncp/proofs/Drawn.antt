@@ -19,12 +19,12 @@ use Rattle.syncp.specs.declared.outcome.Outcome.TheVariants as outcome
 use Rattle.command_words.specs.declared.words.Words.{Words}
 use Rattle.intake.specs.Faults.{refusal_with}
 use Rattle.answers.specs.Benches.{bench_text}
-use Rattle.syncp.specs.Drawing.{HasFewDrawn, HasManyDrawn, IsBench, IsDrawn, IsDrawnTrace}
 use Rattle.intake.specs.TraceTexts.{whole_reading}
 use Rattle.intake.specs.Reads.{ReadsTrace}
-use Rattle.syncp.specs.Modes.{IsAccepted, IsRefusedIn}
+use Rattle.syncp.specs.BenchMode.{Bench, HasFewDrawn, HasManyDrawn, IsBench, IsDrawn, IsDrawnTrace}
+use Rattle.syncp.specs.Modes.{task_in, task_of}
 use Rattle.syncp.specs.Outcome.{Explains, IsAnswered, Makes}
-use Rattle.syncp.specs.Tasks.{Bench, HasRead, task_in, task_of}
+use Rattle.syncp.specs.Tasks.{IsAccepted, IsRefusedIn, HasRead}
 
 -- nothing is left to be read
 pub sure : {A : Type 0} (answer : Result A Fault) → OnOk answer (Unit {0})

@@ -1,13 +1,17 @@
 -- The replays of an input, from its script, its trace and its recording.
-use Rattle.std.proofs.Common.{◌≡◌, ◌≤◌, ℕ, ◌+◌, Bool, List, length, Ok, Err, sym, ap, ◌∙◌, subst}
+use Rattle.std.proofs.Common.{◌≡◌, ◌≤◌, ℕ, ◌+◌, Bool, List, length, Some, Ok, Err, inl, inr, sym, ap, ◌∙◌, subst}
+use Rattle.std.specs.declared.option.Option.{Option}
+use Rattle.std.specs.Io.KnownBytes.{Consumes, IsAtEnd}
 use Rattle.sp_base.specs.declared.limits.TheConstants.{MAX_INPUT}
 use Rattle.trace_laws.specs.Findings.{Found}
-use Rattle.trace_laws.specs.Locations.{LocationsDoNotCount}
+use Rattle.trace_laws.specs.Locations.{DoTheSame, LocationsDoNotCount}
 use Rattle.trace_laws.specs.Names.{NameLists}
 use Rattle.std_text.specs.Framing.{Progress, start_with, after, closed}
 use Rattle.std_text.specs.Refusal.{◌>>=◌}
 use Rattle.script_machine.specs.Held.{meaning}
-use Rattle.script_machine.specs.Machine.{Script}
+use Rattle.script_machine.specs.Laws.{ExclusiveLaw, OfLaw}
+use Rattle.script_machine.specs.Machine.{Script, LegalRun}
+use Rattle.script_machine.specs.OfTrace.{IsFirstNoStep}
 use Rattle.script_machine.specs.Recorded.{Recorded}
 use Rattle.script_machine.specs.ScriptText.{Scripts, FirstFault}
 use Rattle.intake.specs.declared.fault.IntakeFault.{IntakeFault}
@@ -15,15 +19,24 @@ use Rattle.intake.specs.declared.fault.IntakeFault.TheVariants as intake
 use Rattle.syncp.specs.Faults.{fault_of}
 use Rattle.syncp.specs.declared.outcome.Fault.{Fault}
 use Rattle.syncp.specs.declared.outcome.Fault.TheVariants as fault
-use Rattle.intake.specs.Faults.{TellsRefusal, FailsToScript}
+use Rattle.intake.specs.Faults.{refusal_with, TellsRefusal, FailsToGather, FailsToScript}
 use Rattle.intake.specs.Inputs.{scripts_in, trace_in, trace_line}
 use Rattle.intake.specs.Lengths.{newlines}
 use Rattle.pattern_walk.specs.Listed.{HasMorePatterns}
 use Rattle.predictor.specs.Predictions.{ArePredictions}
-use Rattle.syncp.specs.Replayed.{Says, SaysRun, SaysManyPatterns, IsReplay, reading_behind}
-use Rattle.syncp.specs.Replaying.{FailsToReplay, Records}
+use Rattle.syncp.specs.Outcome.{FailsToRead}
+use Rattle.syncp.specs.ReplayMode.{Replay, Says, SaysNoTrace, SaysNoRun, SaysRun, SaysManyPatterns, IsReplay, FailsToReplay, Records, reading_behind}
+use Rattle.syncp.specs.Tasks.{IsAccepted, IsRefusedIn}
 use Rattle.answers.specs.Replays.{ReplaysRun, WritesReplays, run_of}
 use Rattle.answers.proofs.CompleteRuns.{leads_to, trace_is_run}
+use Rattle.syncp.proofs.ReadWhole.{no_excess, taken_all}
+
+-- a fault while scripts and a trace were gathered
+pub gathering_fails_to_replay : (Ended : Type 0) (size : ℕ) (f : IntakeFault) (input : List ℕ) → FailsToGather f input → FailsToRead (Replay size) Ended (fault_of f) input
+gathering_fails_to_replay Ended size (intake.Text f holder) input fails = inl fails
+gathering_fails_to_replay Ended size (intake.Script f) input fails = absurd fails
+gathering_fails_to_replay Ended size intake.Read input fails = fails
+gathering_fails_to_replay Ended size intake.OutOfMemory input fails = tt
 
 -- The size of patterns, the parts of an input, and the number of the trace's first line.
 module _ (size : ℕ) (input scripts trace : List ℕ) (line : ℕ) (few : length input ≤ MAX_INPUT) (scripts_are : scripts ≡ scripts_in input) (trace_is : trace ≡ trace_in input) (line_is : line ≡ newlines scripts + 2) where
@@ -106,3 +119,39 @@ module _ (size : ℕ) (input scripts trace : List ℕ) (line : ℕ) (few : lengt
         -- it has too many patterns
         pub run_has_many : HasMorePatterns r.trace.events size → SaysManyPatterns size input
         run_has_many many = record { run = run_said; many = many }
+
+-- scripts with a run of them are not refused
+pub replay_not_refused : ExclusiveLaw → OfLaw → (f : Fault) (size : ℕ) (new : Option (List ℕ)) (all input : List ℕ) → Consumes (Some all) new input → IsAccepted (Replay size) all → IsRefusedIn (Replay size) (IsAtEnd new) f input → ⊥
+replay_not_refused law of (fault.Text f holder) size new all input c (run, few) (inl known) = no_excess new all input c run.says.few known.0.over
+replay_not_refused law of (fault.Text f holder) size new all input c (run, few) (inr known) =
+    let same : all ≡ input = taken_all new all input c known.1 in
+    let no = subst (λ text. SaysNoTrace text (refusal_with f holder)) (sym same) known.0 in
+    let script : run.script ≡ no.script = (law (scripts_in all) run.script run.says.scripts).0 no.script no.scripts in
+    let refused : reading_behind run.script all ≡ Err (refusal_with f holder) = subst (λ s. reading_behind s all ≡ Err (refusal_with f holder)) (sym script) no.refused in
+    let read = run.says.trace in
+    cc
+replay_not_refused law of (fault.Script f) size new all input c (run, few) known =
+    let same = taken_all new all input c known.2 in
+    (law (scripts_in all) run.script run.says.scripts).1 f (subst (λ text. FirstFault (scripts_in text) f) (sym same) known.1)
+replay_not_refused law of (fault.NotAStep place) size new all input c (run, few) known =
+    let same : all ≡ input = taken_all new all input c known.1 in
+    let no = subst (λ text. SaysNoRun text place) (sym same) known.0 in
+    let script : run.script ≡ no.script = (law (scripts_in all) run.script run.says.scripts).0 no.script no.says.scripts in
+    let read : reading_behind run.script all ≡ Ok no.p = subst (λ s. reading_behind s all ≡ Ok no.p) (sym script) no.says.trace in
+    let one : run.p ≡ no.p = (let here = run.says.trace in cc) in
+    let first = subst (λ s. IsFirstNoStep s no.p.reading.events place) (sym script) no.first in
+    (of run.script run.p.reading.events run.run run.end run.legal run.same).0 place (subst (λ p. IsFirstNoStep run.script p.reading.events place) (sym one) first)
+replay_not_refused law of fault.TooManyPatterns size new all input c (run, few) known =
+    let same : all ≡ input = taken_all new all input c known.1 in
+    let past = subst (λ text. SaysManyPatterns size text) (sym same) known.0 in
+    let script : run.script ≡ past.run.script = (law (scripts_in all) run.script run.says.scripts).0 past.run.script past.run.says.scripts in
+    let read : reading_behind run.script all ≡ Ok past.run.p = subst (λ s. reading_behind s all ≡ Ok past.run.p) (sym script) past.run.says.trace in
+    let one : run.p ≡ past.run.p = (let here = run.says.trace in cc) in
+    let legal = subst (λ s. LegalRun s past.run.run past.run.end) (sym script) past.run.legal in
+    let still : DoTheSame past.run.run run.p.reading.events = subst (λ (p : Progress). DoTheSame past.run.run p.reading.events) (sym one) past.run.same in
+    let runs = (of run.script run.p.reading.events run.run run.end run.legal run.same).1 past.run.run past.run.end legal still in
+    few (subst (λ es. HasMorePatterns es size) (sym runs.0) past.many)
+replay_not_refused law of fault.NoFinding size new all input c run known = known
+replay_not_refused law of fault.Read size new all input c run known = known
+replay_not_refused law of fault.Write size new all input c run known = known
+replay_not_refused law of fault.OutOfMemory size new all input c run known = known

@@ -1,10 +1,11 @@
 pub mod Ran
-pub mod Recordings
+pub mod ReadWhole
 pub mod ReadingFaults
-pub mod InputReplays
-pub mod Reporting
-pub mod Showing
-pub mod WrittenRuns
 pub mod Answering
 pub mod Predicting
+pub mod Reporting
+pub mod Showing
+pub mod Recordings
+pub mod WrittenRuns
+pub mod InputReplays
 pub mod Drawn

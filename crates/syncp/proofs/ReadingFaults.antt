@@ -1,12 +1,12 @@
 -- Faults of reading, as the program's.
-use Rattle.std.proofs.Common.{◌≡◌, ℕ, List, refl, inl}
+use Rattle.std.proofs.Common.{◌≡◌, ℕ, List, refl}
 use Rattle.intake.specs.declared.fault.IntakeFault.{IntakeFault}
 use Rattle.intake.specs.declared.fault.IntakeFault.TheVariants as intake
-use Rattle.intake.specs.Faults.{FailsToGather, FailsToReadScript}
+use Rattle.intake.specs.Faults.{FailsToReadScript}
 use Rattle.syncp.specs.declared.outcome.Fault.TheVariants.{Read}
 use Rattle.syncp.specs.Faults.{fault_of}
 use Rattle.syncp.specs.Outcome.{FailsToRead}
-use Rattle.syncp.specs.Tasks.{Record, Replay}
+use Rattle.syncp.specs.RecordMode.{Record}
 
 -- a fault while scripts were read
 pub script_not_read : (Ended : Type 0) (f : IntakeFault) (input : List ℕ) → FailsToReadScript Ended f input → FailsToRead Record Ended (fault_of f) input
@@ -14,13 +14,6 @@ script_not_read Ended (intake.Text f holder) input fails = fails
 script_not_read Ended (intake.Script f) input fails = fails
 script_not_read Ended intake.Read input fails = fails
 script_not_read Ended intake.OutOfMemory input fails = tt
-
--- a fault while scripts and a trace were gathered
-pub gathering_fails_to_replay : (Ended : Type 0) (size : ℕ) (f : IntakeFault) (input : List ℕ) → FailsToGather f input → FailsToRead (Replay size) Ended (fault_of f) input
-gathering_fails_to_replay Ended size (intake.Text f holder) input fails = inl fails
-gathering_fails_to_replay Ended size (intake.Script f) input fails = absurd fails
-gathering_fails_to_replay Ended size intake.Read input fails = fails
-gathering_fails_to_replay Ended size intake.OutOfMemory input fails = tt
 
 -- the program's fault of a source is that of reading
 pub source_failed : (f : IntakeFault) → fault_of f ≡ Read → f ≡ intake.Read

@@ -1,18 +1,11 @@
 -- What an outcome says of what was read and written. Ended says that the source is at its end.
-use Rattle.std.specs.Prelude.{◌≡◌, ◌≤◌, ◌⊎◌, ℕ, Bool, List, [], Result, Ok, Err}
+use Rattle.std.specs.Prelude.{◌≡◌, ◌⊎◌, ℕ, Bool, true, false, List, [], Result, Ok, Err}
 use Rattle.sp_base.specs.Moves.{IsFront}
-use Rattle.trace_laws.specs.Traces.{History}
-use Rattle.trace_laws.specs.Names.{NameLists}
-use Rattle.trace_laws.specs.Findings.{Found}
-use Rattle.predictor.specs.Predictions.{ArePredictions, HasFewPatterns}
-use Rattle.std_text.specs.Framing.{Progress}
 use Rattle.syncp.specs.declared.outcome.Fault.{Fault}
 use Rattle.syncp.specs.declared.outcome.Fault.TheVariants.{Text, Script, NotAStep, TooManyPatterns, NoFinding, Read, Write, OutOfMemory}
 use Rattle.syncp.specs.declared.outcome.Outcome.{Outcome}
 use Rattle.syncp.specs.declared.outcome.Outcome.TheVariants.{Done, Refused}
-use Rattle.syncp.specs.Modes.{IsOutputOf, IsFrontOf, HasNoFaultIn, IsRefusedIn, IsCut}
-use Rattle.intake.specs.TraceTexts.{history_of, IsStd}
-use Rattle.syncp.specs.Tasks.{Task, Run}
+use Rattle.syncp.specs.Tasks.{Task, IsOutputOf, IsFrontOf, HasNoFaultIn, IsRefusedIn, IsCut}
 
 -- a fault before anything was written
 abbrev pub FailsToRead : Task → Type 0 → Fault → List ℕ → Type 0
@@ -24,10 +17,6 @@ FailsToRead task Ended NoFinding input = IsRefusedIn task Ended NoFinding input
 FailsToRead task Ended Read input = HasNoFaultIn task input
 FailsToRead task Ended Write input = ⊥
 FailsToRead task Ended OutOfMemory input = Unit {0}
-
--- a trace that the whole input says with its names, which has not too many patterns, and what is predicted from it
-abbrev pub IsPredictedFrom : ℕ → List ℕ → (History × NameLists) × Found → Type 0
-IsPredictedFrom size input r = (p : Progress) × IsStd input p × (r.0.0 ≡ history_of p) × (r.0.1 ≡ p.reading.names) × ArePredictions r.0.0 size r.1 × HasFewPatterns r.0.0.events size
 
 -- the output for an input with whether it has a finding, or the fault because of which nothing is written
 abbrev pub Makes : Task → Type 0 → Result (List ℕ × Bool) Fault → List ℕ → Type 0
@@ -57,8 +46,11 @@ abbrev pub IsDone : Outcome → Type 0
 IsDone (Done found) = Unit {0}
 IsDone (Refused fault) = ⊥
 
--- The task was answered: its whole output was written, or memory ran out. In the mode run the run that was recorded may have
--- too many patterns.
+-- the whole output was written, or memory ran out; where a run that was recorded may have too many patterns, or it has
+abbrev pub Answers : Bool → Outcome → Type 0
+Answers true outcome = IsDone outcome ⊎ ((outcome ≡ Refused OutOfMemory) ⊎ (outcome ≡ Refused TooManyPatterns))
+Answers false outcome = IsDone outcome ⊎ (outcome ≡ Refused OutOfMemory)
+
+-- the task was answered
 abbrev pub IsAnswered : Task → Outcome → Type 0
-IsAnswered (Run size) outcome = IsDone outcome ⊎ ((outcome ≡ Refused OutOfMemory) ⊎ (outcome ≡ Refused TooManyPatterns))
-IsAnswered task outcome = IsDone outcome ⊎ (outcome ≡ Refused OutOfMemory)
+IsAnswered task outcome = Answers task.passes outcome

@@ -2,9 +2,8 @@
 //! such traces of them, and takes the scripts to each race and each deadlock.
 #![tactic(auto)]
 
-mod analyse;
 mod answer;
-mod bench;
+mod bench_mode;
 #[cfg(test)]
 mod bench_tests;
 #[cfg(test)]
@@ -16,24 +15,25 @@ mod fault_line;
 mod meeting;
 #[cfg(test)]
 mod meeting_tests;
+mod modes;
 mod outcome;
+mod predict_mode;
 mod predicted;
-mod reach;
 mod record_mode;
 #[cfg(test)]
 mod record_tests;
+mod replay_mode;
 #[cfg(test)]
 mod replay_tests;
-mod replays;
 mod run;
 mod run_mode;
 #[cfg(test)]
 mod run_tests;
 mod scripts_of;
-mod show;
 mod status;
 #[cfg(test)]
 mod tests;
+mod witness_mode;
 #[cfg(test)]
 mod witness_tests;
 

@@ -4,9 +4,10 @@ ghost use Rattle.std.specs.Io.KnownBytes.{IsAtEnd};
 ghost use Rattle.sp_base.specs.Causes.{Rose};
 ghost use Rattle.sp_base.specs.Moves.{Took};
 ghost use Rattle.std_text.specs.Writing.{AreNamed};
-ghost use Rattle.syncp.specs.Outcome.{FailsToRead, IsPredictedFrom};
+ghost use Rattle.syncp.specs.Outcome.{FailsToRead};
+ghost use Rattle.syncp.specs.Predicted.{IsPredictedFrom};
+ghost use Rattle.syncp.specs.PredictMode.{Predict};
 ghost use Rattle.intake.specs.Lengths.{IsWithinLimit};
-ghost use Rattle.syncp.specs.Tasks.{Predict};
 
 use crate::outcome::Fault;
 use intake::read_trace;

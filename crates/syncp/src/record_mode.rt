@@ -3,10 +3,10 @@ ghost use Rattle.std.specs.Prelude.{◌≡◌, ◌⊎◌, ℕ, List, Some};
 ghost use Rattle.std.specs.Io.KnownBytes.{IsAtEnd};
 ghost use Rattle.sp_base.specs.Causes.{Rose};
 ghost use Rattle.sp_base.specs.Moves.{Took, Gained};
-ghost use Rattle.syncp.specs.Modes.{IsAccepted};
 ghost use Rattle.syncp.specs.Outcome.{Explains, IsDone};
 ghost use Rattle.intake.specs.Lengths.{IsWithinLimit};
-ghost use Rattle.syncp.specs.Tasks.{Record};
+ghost use Rattle.syncp.specs.RecordMode.{Record};
+ghost use Rattle.syncp.specs.Tasks.{IsAccepted};
 
 use crate::outcome::{Fault, Outcome};
 use crate::scripts_of::scripts_of;

@@ -3,25 +3,18 @@ ghost use Rattle.std.specs.Prelude.{◌≡◌, ◌≢◌, ◌⊎◌, List, ℕ, 
 ghost use Rattle.std.specs.Io.KnownBytes.{IsAtEnd};
 ghost use Rattle.sp_base.specs.Causes.{Rose};
 ghost use Rattle.sp_base.specs.Moves.{Took, Gained};
-ghost use Rattle.syncp.specs.Modes.{IsAccepted};
-ghost use Rattle.syncp.specs.Outcome.{Explains};
-ghost use Rattle.syncp.specs.Outcome as outcome;
 ghost use Rattle.intake.specs.Lengths.{IsWithinLimit};
-ghost use Rattle.syncp.specs.Run.{Means, Leaves, TellsOf, IsAnswered};
-ghost use Rattle.syncp.specs.Tasks.{HasInput, HasRead, task_of};
+ghost use Rattle.syncp.specs.Leaves.{Means, Leaves, TellsOf, IsAnswered};
+ghost use Rattle.syncp.specs.Modes.{task_of};
+ghost use Rattle.syncp.specs.Tasks.{IsAccepted, HasInput, HasRead};
 ghost use Rattle.command_words.specs.Words.{KeepsRanges, reading_of};
 ghost use Rattle.command_words.specs.declared.words.Words.{Words as Reading};
 
-use crate::analyse::analyse;
-use crate::bench::bench;
 use crate::fault_line::line_of;
+use crate::modes::outcome_of;
 use crate::outcome::{Fault, Outcome, Status};
-use crate::reach::reach;
-use crate::record_mode::record_scripts;
-use crate::run_mode::run_scripts;
-use crate::show::show;
 use crate::status::status_of;
-use command_words::{Mode, Words, WordsFault, read_words};
+use command_words::{Words, WordsFault, read_words};
 use sp_base::{Gate, Sink, Source, WriteFault, write_all};
 use std::alloc::Global;
 use std::sync::Wait;
@@ -112,53 +105,6 @@ fn run_in<R: Threads + Wait + Sync, S: Source, K: Sink, E: Sink, G: Gate + Sync>
     match outcome_of(rt, alloc, reading, source, out, gate) {
         Outcome::Done { found } => { if found { Status::Found } else { Status::Clean } }
         Outcome::Refused(fault) => refuse(alloc, err, &fault),
-    }
-}
-
-// What a mode comes to.
-fn outcome_of<R: Threads + Wait + Sync, S: Source, K: Sink, G: Gate + Sync>(
-    rt: &R,
-    alloc: Global,
-    reading: Words,
-    source: &mut S,
-    out: &mut K,
-    gate: &G,
-) -> Outcome
-    requires { KeepsRanges reading }
-    ensures outcome { Took (S.left source.old) (S.left source.new) (λ input. IsWithinLimit input ×
-        Gained (K.text out.old) (K.text out.new) (Explains (task_of reading) (HasRead (task_of reading) (IsAtEnd (S.left source.new))) result input)) }
-    ensures ended { outcome.IsDone result → HasRead (task_of reading) (IsAtEnd (S.left source.new)) }
-    ensures read { result ≡ Outcome.Refused Fault.Read → Rose (S.faults source.old) (S.faults source.new) }
-    ensures write { result ≡ Outcome.Refused Fault.Write → Rose (K.faults out.old) (K.faults out.new) }
-    ensures complete { (all : List ℕ) → HasInput (task_of reading) (S.left source.old) all → IsAccepted (task_of reading) all →
-        ¬ Rose (S.faults source.old) (S.faults source.new) → ¬ Rose (K.faults out.old) (K.faults out.new) →
-        outcome.IsAnswered (task_of reading) result }
-{
-    match reading.mode {
-        Mode::Predict => analyse(rt, alloc, reading.size, reading.workers, source, out, gate),
-        Mode::Record => record_scripts(rt, alloc, source, out, gate),
-        Mode::Bench => bench(
-            rt,
-            alloc,
-            reading.size,
-            reading.workers,
-            reading.seed,
-            reading.events,
-            out,
-            gate,
-        ),
-        Mode::Replay => reach(rt, alloc, reading.size, reading.workers, source, out, gate),
-        Mode::Run => run_scripts(rt, alloc, reading.size, reading.workers, source, out, gate),
-        Mode::Witness => show(
-            rt,
-            alloc,
-            reading.size,
-            reading.workers,
-            reading.finding,
-            source,
-            out,
-            gate,
-        ),
     }
 }
 

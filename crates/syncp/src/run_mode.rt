@@ -4,11 +4,10 @@ ghost use Rattle.std.specs.Io.KnownBytes.{IsAtEnd};
 ghost use Rattle.sp_base.specs.Causes.{Rose};
 ghost use Rattle.sp_base.specs.Moves.{Took, Gained};
 ghost use Rattle.answers.specs.Runs.{IsRunText};
-ghost use Rattle.syncp.specs.Modes.{IsAccepted};
 ghost use Rattle.syncp.specs.Outcome.{Explains, FailsToRead, IsAnswered, IsDone};
 ghost use Rattle.intake.specs.Lengths.{IsWithinLimit};
-ghost use Rattle.syncp.specs.Runs.{EndsRun, IsRunTextOf};
-ghost use Rattle.syncp.specs.Tasks.{Run};
+ghost use Rattle.syncp.specs.RunMode.{EndsRun, IsRunTextOf, Run};
+ghost use Rattle.syncp.specs.Tasks.{IsAccepted};
 
 use crate::outcome::{Fault, Outcome};
 use crate::scripts_of::scripts_of;
@@ -44,7 +43,7 @@ fn text_of_run<R: Threads + Wait + Sync, G: Gate + Sync>(
 }
 
 // Reads the source to its end, runs its scripts, and answers what is written of the run.
-#[tactic(auto, using(crate::proofs::Ran::fails_to_run))]
+#[tactic(auto, using(crate::proofs::WrittenRuns::fails_to_run))]
 fn run_source<R: Threads + Wait + Sync, S: Source, G: Gate + Sync>(
     rt: &R,
     alloc: Global,

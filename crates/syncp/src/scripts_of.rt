@@ -6,7 +6,7 @@ ghost use Rattle.sp_base.specs.Moves.{Took};
 ghost use Rattle.intake.specs.Lengths.{IsWithinLimit};
 ghost use Rattle.intake.specs.Reads.{IsScriptOf};
 ghost use Rattle.syncp.specs.Outcome.{FailsToRead};
-ghost use Rattle.syncp.specs.Tasks.{Record};
+ghost use Rattle.syncp.specs.RecordMode.{Record};
 
 use crate::outcome::Fault;
 use intake::read_script;

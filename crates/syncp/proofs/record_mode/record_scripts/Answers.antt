@@ -1,8 +1,9 @@
 use Rattle.std.proofs.Common.{ap, subst, Err, [], inr, refl}
 use Rattle.std.specs.Io.KnownBytes.{Consumes}
-use Rattle.syncp.specs.Tasks.{Record}
+use Rattle.syncp.specs.RecordMode.{Record}
 use Rattle.std.proofs.KnownBytes.{Appends-nil}
-use Rattle.syncp.proofs.Ran.{nothing_written, reading_completes, script_not_refused}
+use Rattle.syncp.proofs.Ran.{nothing_written, reading_completes}
+use Rattle.syncp.proofs.ReadWhole.{script_not_refused}
 use Rattle.syncp.proofs.Recordings.{front_recorded, recorded}
 use Rattle.syncp.proofs.record_mode.record_scripts.Goals as goal
 
