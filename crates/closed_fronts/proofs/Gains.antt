@@ -263,10 +263,10 @@ closure_raised events threads place a b c first second steady mended = closure_a
   least = λ other closed all i h. second.least other closed all (λ j p. absurd p) i (held_from_has events c i h);
 })
 
--- A place that acquires and joins nothing, and whose writer is of its own thread if it has one, needs no mending: its row is
--- that of the latest place before it with the own cut raised.
+-- A place that acquires and joins nothing, and whose writer, if it has one, is in the row of the latest place before it,
+-- needs no mending: its row is that one with the own cut raised.
 pub local_row : (events : List Event) → Lawful events → (threads p q t : ℕ) (row : List ℕ) → thread_at events p ≡ Some t → t < length row → IsLatest (IsOwnBefore events p) (Some q) → ((i : ℕ) → IsJoinBefore events p i → ⊥)
-    → ((w : ℕ) → IsWriterOfRead events p w → thread_at events w ≡ Some t) → ((l : ℕ) → op_at events p ≡ Some (Acquire l) → ⊥) → IsRow events threads q row → IsRow events threads p (slice_set row t (p + 1))
+    → ((w : ℕ) → IsWriterOfRead events p w → IsHeld events row w) → ((l : ℕ) → op_at events p ≡ Some (Acquire l) → ⊥) → IsRow events threads q row → IsRow events threads p (slice_set row t (p + 1))
 local_row events lawful threads p q t row own inside latest unjoined writer plain old = record {
   steady = steady_itself events threads p t row own old.steady within inside ready;
   within = within_itself events threads p t row own old.steady within inside ready;
@@ -285,7 +285,7 @@ local_row events lawful threads p q t row own inside latest unjoined writer plai
     ready : IsReady events row p
     ready = record {
       before = λ i h. before i (before_by events p i h);
-      writer = λ w h. all w (record { thread = t; is_of = own; before = record { earlier = h.last.before; side = inl (writer w h) } });
+      writer = writer;
     }
 
     within : AreWithin row (p + 1)

@@ -88,9 +88,9 @@ pub record IsBelowCut (events : List Event) (t cut p : ℕ) : Type 0 where
   pub below : p < cut
 
 -- Place q is the latest before place p that is of its thread or forks that; place p acquires and joins nothing, and its
--- writer, if it has one, is of its own thread.
-pub record IsLocalBehind (events : List Event) (p q : ℕ) : Type 0 where
+-- writer, if it has one, is in the set.
+pub record IsLocalBehind (events : List Event) (cuts : List ℕ) (p q : ℕ) : Type 0 where
   pub source : IsLatest (IsOwnBefore events p) (Some q)
   pub unjoined : (i : ℕ) → IsJoinBefore events p i → ⊥
-  pub writer : (t w : ℕ) → thread_at events p ≡ Some t → IsWriterOfRead events p w → thread_at events w ≡ Some t
+  pub writer : (w : ℕ) → IsWriterOfRead events p w → IsHeld events cuts w
   pub plain : (l : ℕ) → op_at events p ≡ Some (Acquire l) → ⊥

@@ -89,21 +89,36 @@ fn is_acquire(event: &Event) -> bool
     }
 }
 
-// Whether the writer of the place, at which the event stands, is of its own thread, if there is one.
-fn reads_own(ties: &Ties, event: &Event, place: u32) -> bool
+// Whether a place is in the row of a source.
+fn is_below(ties: &Ties, rows: &Rows, source: u32, place: u32) -> bool
+    requires source { source < length rows.now }
+    requires size { length (row_in rows.now source) ≡ ties.now.threads }
     requires place { place < length ties.now.events }
-    ensures { IsTrue result → (w : ℕ) → IsWriterOfRead ties.now.events place w → thread_at ties.now.events w ≡ Some event.now.thread }
+    ensures { IsTrue result → IsHeld ties.now.events (row_in rows.now source) place }
+{
+    let event = ties.event(place);
+    place < rows.cut(source, event.thread.value())
+}
+
+// Whether the writer of the place, if there is one, is in the row of a source.
+fn has_writer(ties: &Ties, rows: &Rows, source: u32, place: u32) -> bool
+    requires source { source < length rows.now }
+    requires size { length (row_in rows.now source) ≡ ties.now.threads }
+    requires place { place < length ties.now.events }
+    ensures { IsTrue result → (w : ℕ) → IsWriterOfRead ties.now.events place w → IsHeld ties.now.events (row_in rows.now source) w }
 {
     match ties.writer(place) {
-        Some(writer) => ties.event(writer).thread.value() == event.thread.value(),
+        Some(writer) => is_below(ties, rows, source, writer),
         None => true,
     }
 }
 
-// The latest place before the place in its thread, where the place needs nothing but that.
-fn local_source(ties: &Ties, place: u32) -> Option<u32>
-    requires { place < length ties.now.events }
-    ensures { IfSome result (IsLocalBehind ties.now.events place) }
+// The latest place before the place in its thread, where the place needs nothing but what that has.
+fn local_source(ties: &Ties, rows: &Rows, place: u32) -> Option<u32>
+    requires rows { AreRows ties.now.events ties.now.threads rows.now }
+    requires place { place < length ties.now.events }
+    requires made { length rows.now ≡ place }
+    ensures { IfSome result (λ q. IsLocalBehind ties.now.events (row_in rows.now q) place q) }
 {
     let event = ties.event(place);
     if is_acquire(&event) {
@@ -112,13 +127,16 @@ fn local_source(ties: &Ties, place: u32) -> Option<u32>
     if ties.joined(place).is_some() {
         return None;
     }
-    if !reads_own(ties, &event, place) {
+    let Some(source) = ties.own(place) else {
+        return None;
+    };
+    if !has_writer(ties, rows, source, place) {
         return None;
     }
-    ties.own(place)
+    Some(source)
 }
 
-// The next place, which needs nothing but its source, gets its row.
+// The next place, which needs nothing but what its source has, gets its row.
 fn note_local(
     alloc: Global,
     ties: &Ties,
@@ -129,7 +147,7 @@ fn note_local(
     requires rows { AreRows ties.now.events ties.now.threads rows.old }
     requires place { place < length ties.now.events }
     requires made { length rows.old ≡ place }
-    requires local { IsLocalBehind ties.now.events place source }
+    requires local { IsLocalBehind ties.now.events (row_in rows.old source) place source }
     ensures rows { OnOk result (AreRows ties.now.events ties.now.threads rows.new) }
     ensures made { OnOk result (length rows.new ≡ place + 1) }
 {
@@ -155,21 +173,10 @@ fn note(
     ensures made { OnOk result (length rows.new ≡ place + 1) }
     ensures room { length room.new ≡ ties.now.threads }
 {
-    match local_source(ties, place) {
+    match local_source(ties, rows, place) {
         Some(source) => note_local(alloc, ties, rows, source, place),
         None => note_whole(alloc, ties, rows, room, place),
     }
-}
-
-// Whether a place is in the row of a source.
-fn is_below(ties: &Ties, rows: &Rows, source: u32, place: u32) -> bool
-    requires source { source < length rows.now }
-    requires size { length (row_in rows.now source) ≡ ties.now.threads }
-    requires place { place < length ties.now.events }
-    ensures { IsTrue result → IsHeld ties.now.events (row_in rows.now source) place }
-{
-    let event = ties.event(place);
-    place < rows.cut(source, event.thread.value())
 }
 
 // The rows of all places.

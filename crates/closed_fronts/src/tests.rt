@@ -26,10 +26,11 @@ fn two_readers(rt: &impl Abort, alloc: Global) -> Trace {
     let second = ThreadId::new(1).expect(rt, "a thread");
     let there = VarId::new(0).expect(rt, "a variable");
     let back = VarId::new(1).expect(rt, "a variable");
-    let mut builder = Builder::new(alloc, 8).expect(rt, "room");
+    let mut builder = Builder::new(alloc, 9).expect(rt, "room");
     add(rt, &mut builder, first, Op::Fork(second));
     add(rt, &mut builder, first, Op::Write(there));
     add(rt, &mut builder, first, Op::Read(there));
+    add(rt, &mut builder, second, Op::Read(there));
     add(rt, &mut builder, second, Op::Read(there));
     add(rt, &mut builder, second, Op::Write(back));
     add(rt, &mut builder, first, Op::Read(back));
@@ -53,19 +54,21 @@ fn test_precedes(rt: &impl Abort, fronts: &Fronts<'_>, place: u32, later: u32, w
 fn shared_rows_are_right(rt: HostRuntime) -> Result<(), Fail> {
     let trace = two_readers(&rt, rt.alloc());
     let fronts = Fronts::build(rt.alloc(), &trace).expect(&rt, "room");
-    // The second thread begins with the fork alone, and reads what has the fork and the first write.
+    // The second thread begins with the fork alone, and reads, twice, what has the fork and the first write.
     test_precedes(&rt, &fronts, 0, 3, true);
     test_precedes(&rt, &fronts, 1, 3, false);
     test_precedes(&rt, &fronts, 1, 4, true);
     test_precedes(&rt, &fronts, 2, 4, false);
-    test_precedes(&rt, &fronts, 1, 7, true);
-    test_precedes(&rt, &fronts, 2, 7, false);
-    test_precedes(&rt, &fronts, 5, 7, false);
+    test_precedes(&rt, &fronts, 1, 5, true);
+    test_precedes(&rt, &fronts, 2, 5, false);
+    test_precedes(&rt, &fronts, 1, 8, true);
+    test_precedes(&rt, &fronts, 2, 8, false);
+    test_precedes(&rt, &fronts, 6, 8, false);
     // The first thread has its own places, and from its last read on those of the second.
     test_precedes(&rt, &fronts, 1, 2, true);
     test_precedes(&rt, &fronts, 2, 2, false);
-    test_precedes(&rt, &fronts, 3, 5, false);
-    test_precedes(&rt, &fronts, 4, 6, true);
-    test_precedes(&rt, &fronts, 7, 6, false);
+    test_precedes(&rt, &fronts, 3, 6, false);
+    test_precedes(&rt, &fronts, 5, 7, true);
+    test_precedes(&rt, &fronts, 8, 7, false);
     Ok(())
 }

@@ -43,5 +43,5 @@ returns-clause-rows c =
     let thread : t ≡ c.event-event.result.thread = c.value.ensures.value ∙ ap (λ (e : Event). e.thread) c.event.view_is in
     let own : thread_at events place ≡ Some t = thread_from_event events place c.event-event.result c.event-event.ensures.event ∙ ap Some (sym thread) in
     let less = c.event-event.ensures.thread in
-    let new = local_row events c.len.ensures.trace.lawful threads place c.args.source t row own (omega arith) local.source local.unjoined (λ w h. local.writer t w own h) local.plain old in
+    let new = local_row events c.len.ensures.trace.lawful threads place c.args.source t row own (omega arith) local.source local.unjoined local.writer local.plain old in
     on_ok_weaker c.push_shared.result (λ is. told_one (IsRow events threads) rows c.push_shared.new.self (slice_set row t (length rows + 1)) place is made c.requires.rows (subst (λ (k : ℕ). IsRow events threads place (slice_set row t (k + 1))) (sym made) new)) c.push_shared.ensures
