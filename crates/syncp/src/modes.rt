@@ -5,6 +5,7 @@ ghost use Rattle.sp_base.specs.Causes.{Rose};
 ghost use Rattle.sp_base.specs.Moves.{Took, Gained};
 ghost use Rattle.intake.specs.Lengths.{IsWithinLimit};
 ghost use Rattle.command_words.specs.Words.{KeepsRanges};
+ghost use Rattle.syncp.specs.declared.outcome.Fault.{Fault};
 ghost use Rattle.syncp.specs.Modes.{task_of};
 ghost use Rattle.syncp.specs.Outcome.{Explains, IsAnswered, IsDone};
 ghost use Rattle.syncp.specs.Tasks.{IsAccepted, HasInput, HasRead};
