@@ -1,5 +1,5 @@
 -- An input that is read whole, and is a trace or a script, is not refused.
-use Rattle.std.proofs.Common.{◌≡◌, ◌≤◌, ◌<◌, ℕ, List, ◌++◌, length, Some, None, Ok, Err, sym, ap, ◌∙◌, inl, inr, subst, append-nil, length-append, arith}
+use Rattle.std.proofs.Common.{◌≡◌, ◌≤◌, ◌<◌, ℕ, List, ◌++◌, length, Some, None, Ok, Err, refl, sym, ap, ◌∙◌, inl, inr, subst, append-nil, length-append, arith}
 use Rattle.std.specs.declared.option.Option.{Option}
 use Rattle.std.specs.Io.KnownBytes.{Consumes, IsAtEnd}
 use Rattle.sp_base.specs.declared.limits.TheConstants.{MAX_INPUT}
