@@ -1,8 +1,7 @@
 use Rattle.std.proofs.Common.{arith}
 use Rattle.std.specs.Prelude.{slice_index}
 use Rattle.std.proofs.lemmas.Option.{slice_get-get_or}
-use Rattle.trace_laws.proofs.Places.{contains_at}
-use Rattle.trace_index.proofs.Accessing.{access_within}
+use Rattle.trace_laws.proofs.Places.{access_within, contains_at}
 use Rattle.race_scan.proofs.Grouping.{noted_step, noted_all}
 use Rattle.race_scan.proofs.groups.groups_of.Goals as goal
 
