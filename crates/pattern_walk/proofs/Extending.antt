@@ -10,6 +10,7 @@ use Rattle.trace_laws.specs.Patterns.{Class}
 use Rattle.trace_laws.proofs.Places.{three_way, index_of, contains_at, slice_get-append_seam, slice_get-append_left}
 use Rattle.trace_index.proofs.SetNumbering.{push_cases}
 use Rattle.pattern_walk.specs.Cycles.{IsCycle, BeginsWith, IsExtension, Precedes}
+use Rattle.pattern_walk.specs.Linked.{StandsInCycle}
 use Rattle.pattern_walk.specs.Walks.{AreInOrder, IsBehind, Extends, IsNextAmong, ExtendsTo, BeginsBelow, FoundBelow, HasMoreCycles}
 use Rattle.pattern_walk.proofs.Lists.{all_pairs_from, all_pairs_at}
 use Rattle.pattern_walk.proofs.Walking.{path_only}
@@ -212,6 +213,24 @@ module _ (classes : List Class) (size : ℕ) where
       go (inl less) = inl (omega arith)
       go (inr h) = inr (h.0 ∙ sym long, (0, (let at_p = get_or_from_slice_get p 0 h.1.first 0 h.1.at in let at_q = get_or_from_slice_get q 0 start 0 first in let less = h.1.below in omega arith), λ k less. absurd (omega arith)))
 
+  -- what it has only for a class it has only for the next one
+  only_more : (start : ℕ) (q : List ℕ) → (length q < size) ⊎ ((length q ≡ size) × BeginsBelow start q) → (length q < size) ⊎ ((length q ≡ size) × BeginsBelow (start + 1) q)
+  only_more start q (inl less) = inl less
+  only_more start q (inr h) = inr (h.0, record { first = h.1.first; at = h.1.at; below = let less = h.1.below in omega arith })
+
+  -- past a class that stands in no cycle it is what is found for the next class
+  pub below_past : (start : ℕ) (found : List (List ℕ)) → (StandsInCycle classes start → ⊥) → FoundBelow classes size start found → FoundBelow classes size (start + 1) found
+  below_past start found none below = record {
+    found = below.found;
+    smaller = below.smaller;
+    same = λ q cycle long begins. same q cycle long begins (cases_eq begins.first start);
+    only = λ q c. only_more start q (below.only q c);
+  }
+    where
+      same : (q : List ℕ) → IsCycle classes q → length q ≡ size → (b : BeginsBelow (start + 1) q) → (b.first ≡ start) ⊎ (b.first ≢ start) → Contains found q
+      same q cycle long b (inl is) = absurd (none (record { cycle = q; is = cycle; member = contains_at q 0 start (b.at ∙ ap Some is) }))
+      same q cycle long b (inr other) = below.same q cycle long (record { first = b.first; at = b.at; below = let less = b.below in omega (arith, other) })
+
   -- with these it is what is found for the next class
   pub below_next : (start : ℕ) (found new : List (List ℕ)) → FoundBelow classes size start found → Extends classes size (start ∷ []) found new → FoundBelow classes size (start + 1) new
   below_next start found new below extends = record {
@@ -225,12 +244,8 @@ module _ (classes : List Class) (size : ℕ) where
       same q cycle long b (inl is) = extends.all q (record { cycle = cycle; size = long; begins = begins_alone start q (b.at ∙ ap Some is) })
       same q cycle long b (inr other) = extends.kept q (below.same q cycle long (record { first = b.first; at = b.at; below = let less = b.below in omega (arith, other) }))
 
-      old : (q : List ℕ) → (length q < size) ⊎ ((length q ≡ size) × BeginsBelow start q) → (length q < size) ⊎ ((length q ≡ size) × BeginsBelow (start + 1) q)
-      old q (inl less) = inl less
-      old q (inr h) = inr (h.0, record { first = h.1.first; at = h.1.at; below = let less = h.1.below in omega arith })
-
       only : (q : List ℕ) → Contains found q ⊎ IsExtension classes size (start ∷ []) q → (length q < size) ⊎ ((length q ≡ size) × BeginsBelow (start + 1) q)
-      only q (inl c) = old q (below.only q c)
+      only q (inl c) = only_more start q (below.only q c)
       only q (inr extension) = inr (extension.size, record { first = start; at = extension.begins 0 start refl; below = omega arith })
 
   -- past the last class it is what is found for the next size

@@ -2,6 +2,7 @@ pub mod Lists
 pub mod PatternCycles
 pub mod Preceding
 pub mod Counted
+pub mod Linking
 pub mod Ordering
 pub mod Nearing
 pub mod Walking

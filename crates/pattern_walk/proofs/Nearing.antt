@@ -7,8 +7,9 @@ use Rattle.std.proofs.lemmas.Bool.{cases_eq}
 use Rattle.std.proofs.lemmas.List.{get_or-set_same, get_or-set_other}
 use Rattle.std.proofs.lemmas.Option.{slice_get_within, slice_get-get_or, slice_get_cases}
 use Rattle.trace_laws.specs.Patterns.{Class}
-use Rattle.trace_laws.proofs.Places.{three_way, index_of}
+use Rattle.trace_laws.proofs.Places.{three_way, index_of, contains_at}
 use Rattle.pattern_walk.specs.Cycles.{class_of}
+use Rattle.pattern_walk.specs.Linked.{StandsInCycle}
 use Rattle.pattern_walk.specs.Orders.{AreBefore}
 use Rattle.pattern_walk.specs.Nearness.{IsLowered, IsReachedBelow, IsSpreadBelow, IsNearWithin}
 
@@ -100,10 +101,10 @@ module _ (classes : List Class) (start size : ℕ) where
           let at_next : slice_get q (i + 1) ≡ Some next = slice_get-get_or q (i + 1) 0 (omega arith) in
           let close : slice_index near (class_of classes next).lock + (i + 1) ≤ size = was q (i + 1) next cycle long begins (omega arith) (omega arith) at_next in
           let in_classes = cycle.path.within (i + 1) next at_next in
-          by next in_classes (omega arith) (cycle.path.chain i n next at at_next) (slice_get_cases before (class_of classes next).lock).1
+          by next in_classes (record { cycle = q; is = cycle; member = contains_at q (i + 1) next at_next }) (omega arith) (cycle.path.chain i n next at at_next) (slice_get_cases before (class_of classes next).lock).1
         where
-          by : (next : ℕ) → next < length classes → slice_index near (class_of classes next).lock ≤ step → Contains (class_of classes next).held (class_of classes n).lock → ((v : Vec ℕ Global) × ((class_of classes next).lock < length before) × (slice_get before (class_of classes next).lock ≡ Some v) × (get_or before (class_of classes next).lock v ≡ v)) ⊎ ((length before ≤ (class_of classes next).lock) × (slice_get before (class_of classes next).lock ≡ None)) → slice_index more (class_of classes n).lock + i ≤ size
-          by next inside close holds (inl found) =
-              let reached = spread (class_of classes next).lock (class_of classes n).lock found.0 found.2 close (are.all next (class_of classes n).lock found.0 inside holds found.2) in
+          by : (next : ℕ) → next < length classes → StandsInCycle classes next → slice_index near (class_of classes next).lock ≤ step → Contains (class_of classes next).held (class_of classes n).lock → ((v : Vec ℕ Global) × ((class_of classes next).lock < length before) × (slice_get before (class_of classes next).lock ≡ Some v) × (get_or before (class_of classes next).lock v ≡ v)) ⊎ ((length before ≤ (class_of classes next).lock) × (slice_get before (class_of classes next).lock ≡ None)) → slice_index more (class_of classes n).lock + i ≤ size
+          by next inside stands close holds (inl found) =
+              let reached = spread (class_of classes next).lock (class_of classes n).lock found.0 found.2 close (are.all next (class_of classes n).lock found.0 inside stands holds found.2) in
               omega arith
-          by next inside close holds (inr past) = absurd (let within_locks = few next inside in let out = past.0 in omega arith)
+          by next inside stands close holds (inr past) = absurd (let within_locks = few next inside in let out = past.0 in omega arith)

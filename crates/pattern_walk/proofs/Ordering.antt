@@ -8,21 +8,26 @@ use Rattle.std.proofs.Math.ListN.{length-set}
 use Rattle.std.proofs.lemmas.Bool.{cases_eq, eqb-true}
 use Rattle.std.proofs.lemmas.Option.{slice_get_within, slice_get-get_or}
 use Rattle.std.proofs.lemmas.List.Elements.{Contains-push, Contains-push_cases, Contains-append_left}
-use Rattle.sp_base.specs.declared.limits.TheConstants.{MAX_LOCKS}
 use Rattle.trace_laws.specs.Reordering.{Rises}
 use Rattle.trace_laws.specs.Patterns.{Class}
 use Rattle.trace_laws.proofs.Places.{index_of, contains_at, contains_head, contains_tail, contains_none, mapped_from}
 use Rattle.trace_laws.proofs.Enabling.{Rises-push}
 use Rattle.trace_laws.proofs.Growing.{slice_get-set_same, slice_get-set_other}
 use Rattle.trace_laws.proofs.Judges.{dec_contains}
+use Rattle.lock_graph.specs.Classes.{HaveLocksBelow}
 use Rattle.pattern_walk.specs.Cycles.{class_of}
+use Rattle.pattern_walk.specs.Linked.{StandsInCycle}
 use Rattle.pattern_walk.specs.Orders.{AddsClass, AddsClassBelow, AreHoldersOf, AreHolders, AreBefore}
 use Rattle.pattern_walk.proofs.Lists.{all_at}
-use Rattle.pattern_walk.proofs.PatternCycles.{class_is}
+use Rattle.pattern_walk.proofs.PatternCycles.{class_at, class_is}
 
 -- what a class has, as it was read
 pub read_of : {Y : Type 0} (f : Class → Y) (classes : List Class) (n : ℕ) (y : Y) → option_map f (slice_get classes n) ≡ Some y → f (class_of classes n) ≡ y
 read_of f classes n y read = let found = mapped_from f (slice_get classes n) y read in ap f (class_is classes n found.0 found.1) ∙ found.2
+
+-- the lock of a class, as it was read, is below a number that all are below
+pub lock_below : (classes : List Class) (n lock bound : ℕ) → n < length classes → option_map (λ c. c.lock) (slice_get classes n) ≡ Some lock → HaveLocksBelow classes bound → lock < bound
+lock_below classes n lock bound within read below = subst (λ (l : ℕ). l < bound) (read_of (λ c. c.lock) classes n lock read) (below.lock (class_of classes n) (contains_at classes n (class_of classes n) (class_at classes n within)))
 
 -- what stands in a list after a write
 written : {X : Type 0} (xs : List X) (l k : ℕ) (x y : X) → l < length xs → slice_get (slice_set xs l x) k ≡ Some y → ((k ≡ l) × (x ≡ y)) ⊎ ((k ≢ l) × (slice_get xs k ≡ Some y))
@@ -77,26 +82,28 @@ module _ (old : List (Vec ℕ Global)) (locks : List ℕ) (class : ℕ) where
   }
 
 -- before the first class no lock is held
-pub holders_none : (classes : List Class) (holders : List (Vec ℕ Global)) → length holders ≡ MAX_LOCKS → All (λ (v : Vec ℕ Global). v.items ≡ []) holders → AreHolders classes 0 holders
+pub holders_none : (classes : List Class) (holders : List (Vec ℕ Global)) → HaveLocksBelow classes (length holders) → All (λ (v : Vec ℕ Global). v.items ≡ []) holders → AreHolders classes 0 holders
 holders_none classes holders locks empty = record {
   locks = locks;
   each = λ l v at. subst (AreHoldersOf classes 0 l) (sym (all_at (λ (w : Vec ℕ Global). w.items ≡ []) holders empty l v at)) (record {
     order = λ a b i j less at_a at_b. cc;
-    members = λ c. (λ m. absurd (contains_none c m), λ h. let less = h.0 in absurd (omega arith));
+    only = λ c m. absurd (contains_none c m);
+    all = λ c less stands holds. absurd (omega arith);
   });
 }
 
 -- the next class is added to the locks that it holds
 pub holders_next : (classes : List Class) (n : ℕ) (holders more : List (Vec ℕ Global)) (held : List ℕ) → (class_of classes n).held ≡ held → AreHolders classes n holders → AddsClass holders held n more → AreHolders classes (n + 1) more
 holders_next classes n holders more held is old adds = record {
-  locks = adds.size ∙ old.locks;
+  locks = subst (HaveLocksBelow classes) (sym adds.size) old.locks;
   each = λ l w at. each l w at (dec_contains held l);
 }
   where
     each : (l : ℕ) (w : Vec ℕ Global) → slice_get more l ≡ Some w → Dec (Contains held l) → AreHoldersOf classes (n + 1) l w.items
     each l w at (yes has) = subst (AreHoldersOf classes (n + 1) l) (sym (adds.added l v w has at_v at)) (record {
-      order = Rises-push v.items n was.order (λ i m. ((was.members i).0 m).0);
-      members = λ c. (λ m. forth c (Contains-push_cases v.items n c m), λ h. back c h (cases_eq c n));
+      order = Rises-push v.items n was.order (λ i m. (was.only i m).0);
+      only = λ c m. forth c (Contains-push_cases v.items n c m);
+      all = λ c less stands holds. back c less stands holds (cases_eq c n);
     })
       where
         v : Vec ℕ Global
@@ -109,58 +116,82 @@ holders_next classes n holders more held is old adds = record {
         was = old.each l v at_v
 
         forth : (c : ℕ) → Contains v.items c ⊎ (n ≡ c) → (c < n + 1) × Contains (class_of classes c).held l
-        forth c (inl m) = let h = (was.members c).0 m in (let less = h.0 in omega arith, h.1)
+        forth c (inl m) = let h = was.only c m in (let less = h.0 in omega arith, h.1)
         forth c (inr same) = (omega arith, subst (λ (k : ℕ). Contains (class_of classes k).held l) same (subst (λ (xs : List ℕ). Contains xs l) (sym is) has))
 
-        back : (c : ℕ) → (c < n + 1) × Contains (class_of classes c).held l → (c ≡ n) ⊎ (c ≢ n) → Contains (v.items ++ n ∷ []) c
-        back c h (inl same) = subst (Contains (v.items ++ n ∷ [])) (sym same) (Contains-push v.items n)
-        back c h (inr other) = Contains-append_left v.items (n ∷ []) c ((was.members c).1 (let less = h.0 in omega (arith, other), h.1))
+        back : (c : ℕ) → c < n + 1 → StandsInCycle classes c → Contains (class_of classes c).held l → (c ≡ n) ⊎ (c ≢ n) → Contains (v.items ++ n ∷ []) c
+        back c less stands holds (inl same) = subst (Contains (v.items ++ n ∷ [])) (sym same) (Contains-push v.items n)
+        back c less stands holds (inr other) = Contains-append_left v.items (n ∷ []) c (was.all c (omega (arith, other)) stands holds)
     each l w at (no lacks) = record {
       order = was.order;
-      members = λ c. (λ m. let h = (was.members c).0 m in (let less = h.0 in omega arith, h.1), λ h. back c h (cases_eq c n));
+      only = λ c m. let h = was.only c m in (let less = h.0 in omega arith, h.1);
+      all = λ c less stands holds. back c less stands holds (cases_eq c n);
     }
       where
         was : AreHoldersOf classes n l w.items
         was = old.each l w (sym (adds.same l lacks) ∙ at)
 
-        back : (c : ℕ) → (c < n + 1) × Contains (class_of classes c).held l → (c ≡ n) ⊎ (c ≢ n) → Contains w.items c
-        back c h (inl same) = absurd (lacks (subst (λ (xs : List ℕ). Contains xs l) is (subst (λ (k : ℕ). Contains (class_of classes k).held l) same h.1)))
-        back c h (inr other) = (was.members c).1 (let less = h.0 in omega (arith, other), h.1)
+        back : (c : ℕ) → c < n + 1 → StandsInCycle classes c → Contains (class_of classes c).held l → (c ≡ n) ⊎ (c ≢ n) → Contains w.items c
+        back c less stands holds (inl same) = absurd (lacks (subst (λ (xs : List ℕ). Contains xs l) is (subst (λ (k : ℕ). Contains (class_of classes k).held l) same holds)))
+        back c less stands holds (inr other) = was.all c (omega (arith, other)) stands holds
+
+-- a class that stands in no cycle is left out
+pub holders_past : (classes : List Class) (n : ℕ) (holders : List (Vec ℕ Global)) → AreHolders classes n holders → (StandsInCycle classes n → ⊥) → AreHolders classes (n + 1) holders
+holders_past classes n holders old none = record { locks = old.locks; each = λ l v at. each l v (old.each l v at) }
+  where
+    each : (l : ℕ) (v : Vec ℕ Global) → AreHoldersOf classes n l v.items → AreHoldersOf classes (n + 1) l v.items
+    each l v was = record {
+      order = was.order;
+      only = λ c m. let h = was.only c m in (let less = h.0 in omega arith, h.1);
+      all = λ c less stands holds. by c less stands holds (cases_eq c n);
+    }
+      where
+        by : (c : ℕ) → c < n + 1 → StandsInCycle classes c → Contains (class_of classes c).held l → (c ≡ n) ⊎ (c ≢ n) → Contains v.items c
+        by c less stands holds (inl same) = absurd (none (subst (StandsInCycle classes) same stands))
+        by c less stands holds (inr other) = was.all c (omega (arith, other)) stands holds
 
 -- before the first class no lock is taken
-pub before_none : (classes : List Class) (before : List (Vec ℕ Global)) → length before ≡ MAX_LOCKS → All (λ (v : Vec ℕ Global). v.items ≡ []) before → AreBefore classes 0 before
+pub before_none : (classes : List Class) (before : List (Vec ℕ Global)) → HaveLocksBelow classes (length before) → All (λ (v : Vec ℕ Global). v.items ≡ []) before → AreBefore classes 0 before
 before_none classes before locks empty = record {
   locks = locks;
-  all = λ c h v less holds at. absurd (omega arith);
+  all = λ c h v less stands holds at. absurd (omega arith);
   below = λ l h v at m. absurd (contains_none h (subst (λ (xs : List ℕ). Contains xs h) (all_at (λ (w : Vec ℕ Global). w.items ≡ []) before empty l v at) m));
 }
 
 -- what the next class holds is before the lock that it takes
-pub before_next : (classes : List Class) (n lock : ℕ) (before : List (Vec ℕ Global)) (held : List ℕ) (v w : Vec ℕ Global) → (class_of classes n).held ≡ held → (class_of classes n).lock ≡ lock → AreBefore classes n before → slice_get before lock ≡ Some v → ((h : ℕ) → Contains w.items h ↔ (Contains v.items h ⊎ Contains held h)) → ((h : ℕ) → Contains held h → h < MAX_LOCKS) → AreBefore classes (n + 1) (slice_set before lock w)
+pub before_next : (classes : List Class) (n lock : ℕ) (before : List (Vec ℕ Global)) (held : List ℕ) (v w : Vec ℕ Global) → (class_of classes n).held ≡ held → (class_of classes n).lock ≡ lock → AreBefore classes n before → slice_get before lock ≡ Some v → ((h : ℕ) → Contains w.items h ↔ (Contains v.items h ⊎ Contains held h)) → ((h : ℕ) → Contains held h → h < length before) → AreBefore classes (n + 1) (slice_set before lock w)
 before_next classes n lock before held v w is_held is_lock old at_v members few = record {
-  locks = length-set before lock w ∙ old.locks;
-  all = λ c h x less holds at. all c h x less holds (cases_eq c n) (written before lock (class_of classes c).lock w x within at);
-  below = λ l h x at m. below l h x m (written before lock l w x within at);
+  locks = subst (HaveLocksBelow classes) (sym (length-set before lock w)) old.locks;
+  all = λ c h x less stands holds at. all c h x less stands holds (cases_eq c n) (written before lock (class_of classes c).lock w x within at);
+  below = λ l h x at m. let few = below l h x m (written before lock l w x within at) in omega (arith, length-set before lock w);
 }
   where
     within : lock < length before
     within = slice_get_within before lock v at_v
 
-    all : (c h : ℕ) (x : Vec ℕ Global) → c < n + 1 → Contains (class_of classes c).held h → (c ≡ n) ⊎ (c ≢ n) → (((class_of classes c).lock ≡ lock) × (w ≡ x)) ⊎ (((class_of classes c).lock ≢ lock) × (slice_get before (class_of classes c).lock ≡ Some x)) → Contains x.items h
-    all c h x less holds (inl same) (inl y) = subst (λ (z : Vec ℕ Global). Contains z.items h) y.1 ((members h).1 (inr (subst (λ (xs : List ℕ). Contains xs h) is_held (subst (λ (k : ℕ). Contains (class_of classes k).held h) same holds))))
-    all c h x less holds (inl same) (inr y) = absurd (y.0 (subst (λ (k : ℕ). (class_of classes k).lock ≡ lock) (sym same) is_lock))
-    all c h x less holds (inr other) (inl y) =
+    all : (c h : ℕ) (x : Vec ℕ Global) → c < n + 1 → StandsInCycle classes c → Contains (class_of classes c).held h → (c ≡ n) ⊎ (c ≢ n) → (((class_of classes c).lock ≡ lock) × (w ≡ x)) ⊎ (((class_of classes c).lock ≢ lock) × (slice_get before (class_of classes c).lock ≡ Some x)) → Contains x.items h
+    all c h x less stands holds (inl same) (inl y) = subst (λ (z : Vec ℕ Global). Contains z.items h) y.1 ((members h).1 (inr (subst (λ (xs : List ℕ). Contains xs h) is_held (subst (λ (k : ℕ). Contains (class_of classes k).held h) same holds))))
+    all c h x less stands holds (inl same) (inr y) = absurd (y.0 (subst (λ (k : ℕ). (class_of classes k).lock ≡ lock) (sym same) is_lock))
+    all c h x less stands holds (inr other) (inl y) =
         let there : slice_get before (class_of classes c).lock ≡ Some v = subst (λ (l : ℕ). slice_get before l ≡ Some v) (sym y.0) at_v in
-        subst (λ (z : Vec ℕ Global). Contains z.items h) y.1 ((members h).1 (inl (old.all c h v (omega (arith, other)) holds there)))
-    all c h x less holds (inr other) (inr y) = old.all c h x (omega (arith, other)) holds y.1
+        subst (λ (z : Vec ℕ Global). Contains z.items h) y.1 ((members h).1 (inl (old.all c h v (omega (arith, other)) stands holds there)))
+    all c h x less stands holds (inr other) (inr y) = old.all c h x (omega (arith, other)) stands holds y.1
 
-    below : (l h : ℕ) (x : Vec ℕ Global) → Contains x.items h → ((l ≡ lock) × (w ≡ x)) ⊎ ((l ≢ lock) × (slice_get before l ≡ Some x)) → h < MAX_LOCKS
+    below : (l h : ℕ) (x : Vec ℕ Global) → Contains x.items h → ((l ≡ lock) × (w ≡ x)) ⊎ ((l ≢ lock) × (slice_get before l ≡ Some x)) → h < length before
     below l h x m (inl y) = by ((members h).0 (subst (λ (z : Vec ℕ Global). Contains z.items h) (sym y.1) m))
       where
-        by : Contains v.items h ⊎ Contains held h → h < MAX_LOCKS
+        by : Contains v.items h ⊎ Contains held h → h < length before
         by (inl c) = old.below lock h v at_v c
         by (inr c) = few h c
     below l h x m (inr y) = old.below l h x y.1 m
+
+-- what a class holds that stands in no cycle is left out
+pub before_past : (classes : List Class) (n : ℕ) (before : List (Vec ℕ Global)) → AreBefore classes n before → (StandsInCycle classes n → ⊥) → AreBefore classes (n + 1) before
+before_past classes n before old none = record { locks = old.locks; all = λ c h v less stands holds at. all c h v less stands holds at (cases_eq c n); below = old.below }
+  where
+    all : (c h : ℕ) (v : Vec ℕ Global) → c < n + 1 → StandsInCycle classes c → Contains (class_of classes c).held h → slice_get before (class_of classes c).lock ≡ Some v → (c ≡ n) ⊎ (c ≢ n) → Contains v.items h
+    all c h v less stands holds at (inl same) = absurd (none (subst (StandsInCycle classes) same stands))
+    all c h v less stands holds at (inr other) = old.all c h v (omega (arith, other)) stands holds at
 
 -- a number that a list was tested for is in it
 pub contains_tested : (xs : List ℕ) (x : ℕ) → list_any (λ y. eqb y x) xs ≡ true → Contains xs x

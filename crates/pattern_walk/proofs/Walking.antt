@@ -3,15 +3,15 @@ use Rattle.std.proofs.Common.{◌≡◌, ◌≢◌, ℕ, ◌+◌, ◌-◌, ◌<�
 use Rattle.std.specs.Prelude.{slice_get, slice_index, Contains}
 use Rattle.std.proofs.lemmas.Bool.{cases_eq}
 use Rattle.std.proofs.lemmas.Option.{slice_get_within}
-use Rattle.sp_base.specs.declared.limits.TheConstants.{MIN_SIZE, MAX_SIZE, MAX_LOCKS}
+use Rattle.sp_base.specs.declared.limits.TheConstants.{MIN_SIZE, MAX_SIZE}
 use Rattle.trace_laws.specs.Patterns.{Class, AreApart}
 use Rattle.trace_laws.proofs.Places.{three_way, contains_at, index_of, slice_get-append_left, slice_get-append_seam}
 use Rattle.trace_index.proofs.SetNumbering.{push_cases}
+use Rattle.lock_graph.specs.Classes.{HaveLocksBelow}
 use Rattle.pattern_walk.specs.declared.near.Near.{Near}
 use Rattle.pattern_walk.specs.declared.walk.Walk.{Walk}
 use Rattle.pattern_walk.specs.Cycles.{class_of, IsPath, IsCycle, IsExtension}
-use Rattle.pattern_walk.specs.Orders.{AreHolders}
-use Rattle.pattern_walk.specs.Walks.{IsOnWay}
+use Rattle.pattern_walk.specs.Walks.{IsReady, IsOnWay}
 use Rattle.pattern_walk.specs.Nearness.{IsNear}
 use Rattle.pattern_walk.proofs.Lists.{same_list}
 
@@ -117,7 +117,7 @@ path_closes classes path first last size is at_first at_last holds = record {
 -- a walk goes on along a path with one class more
 pub goes_along : (walk : Walk) (known : Near) (way : List ℕ) (next : ℕ) → IsOnWay walk known way → length way < known.size → IsPath walk.classes.now.classes (way ++ next ∷ []) → IsOnWay walk known (way ++ next ∷ [])
 goes_along walk known way next is short path = record {
-  holders = is.holders;
+  ready = is.ready;
   start = is.start;
   begins = slice_get-append_left way (next ∷ []) 0 (slice_get_within way 0 is.start is.begins) ∙ is.begins;
   path = path;
@@ -129,9 +129,9 @@ goes_along walk known way next is short path = record {
 }
 
 -- a walk begins with a class
-pub begins_along : (walk : Walk) (known : Near) (start : ℕ) → AreHolders walk.classes.now.classes (length walk.classes.now.classes) walk.order.holders.items → start < length walk.classes.now.classes → MIN_SIZE ≤ known.size → known.size ≤ MAX_SIZE → length known.steps.items ≡ MAX_LOCKS → IsNear walk.classes.now.classes start known.size known.steps.items → IsOnWay walk known (start ∷ [])
-begins_along walk known start holders within least most locks near = record {
-  holders = holders;
+pub begins_along : (walk : Walk) (known : Near) (start : ℕ) → IsReady walk → start < length walk.classes.now.classes → MIN_SIZE ≤ known.size → known.size ≤ MAX_SIZE → HaveLocksBelow walk.classes.now.classes (length known.steps.items) → IsNear walk.classes.now.classes start known.size known.steps.items → IsOnWay walk known (start ∷ [])
+begins_along walk known start ready within least most locks near = record {
+  ready = ready;
   start = start;
   begins = refl;
   path = path_single walk.classes.now.classes start within;

@@ -1,4 +1,5 @@
 pub mod Cycles
+pub mod Linked
 pub mod Orders
 pub mod Nearness
 pub mod Walks

@@ -1,23 +1,31 @@
 -- What a walk over classes finds.
 use Rattle.std.specs.Prelude.{◌≡◌, ◌<◌, ◌≤◌, ◌⊎◌, ℕ, List, Some, length, slice_get, Contains, AllPairs}
-use Rattle.sp_base.specs.declared.limits.TheConstants.{MIN_SIZE, MAX_SIZE, MAX_LOCKS, MAX_PATTERNS}
+use Rattle.sp_base.specs.declared.limits.TheConstants.{MIN_SIZE, MAX_SIZE, MAX_PATTERNS}
 use Rattle.trace_laws.specs.Patterns.{Class}
+use Rattle.lock_graph.specs.Classes.{HaveLocksBelow}
 use Rattle.pattern_walk.specs.declared.near.Near.{Near}
 use Rattle.pattern_walk.specs.declared.walk.Walk.{Walk}
 use Rattle.pattern_walk.specs.Cycles.{IsPath, IsCycle, BeginsWith, IsExtension, Precedes}
-use Rattle.pattern_walk.specs.Orders.{AreHolders}
+use Rattle.pattern_walk.specs.Linked.{AreLinks}
+use Rattle.pattern_walk.specs.Orders.{AreHolders, AreBefore}
 use Rattle.pattern_walk.specs.Nearness.{IsNear}
+
+-- the walk knows which classes can stand in a cycle, and the order of their locks
+pub record IsReady (walk : Walk) : Type 0 where
+  pub links : AreLinks walk.classes.now.classes (length walk.classes.now.classes) walk.links.flags.items
+  pub holders : AreHolders walk.classes.now.classes (length walk.classes.now.classes) walk.order.holders.items
+  pub before : AreBefore walk.classes.now.classes (length walk.classes.now.classes) walk.order.before.items
 
 -- the walk has come along the path, and knows how near each lock is to the path's first class
 pub record IsOnWay (walk : Walk) (known : Near) (way : List ℕ) : Type 0 where
-  pub holders : AreHolders walk.classes.now.classes (length walk.classes.now.classes) walk.order.holders.items
+  pub ready : IsReady walk
   pub start : ℕ
   pub begins : slice_get way 0 ≡ Some start
   pub path : IsPath walk.classes.now.classes way
   pub short : length way ≤ known.size
   pub least : MIN_SIZE ≤ known.size
   pub most : known.size ≤ MAX_SIZE
-  pub locks : length known.steps.items ≡ MAX_LOCKS
+  pub locks : HaveLocksBelow walk.classes.now.classes (length known.steps.items)
   pub near : IsNear walk.classes.now.classes start known.size known.steps.items
 
 -- not too many cycles of at most that size, in their order

@@ -10,6 +10,7 @@
 mod checking;
 mod gallop;
 mod instance;
+mod links;
 mod near;
 mod order;
 mod patterns;

@@ -4,7 +4,6 @@ ghost use Rattle.std.specs.Prelude.{◌≡◌, ◌<◌, ◌≤◌, ◌↔◌, le
 ghost use Rattle.sp_base.specs.declared.limits.TheConstants.{MIN_SIZE, MAX_SIZE, MAX_PATTERNS};
 ghost use Rattle.pattern_walk.specs.Listed.{AreListedPatterns, HasMorePatterns};
 
-use crate::near::Near;
 use crate::walk::Walk;
 use lock_graph::Classes;
 use sp_base::{MIN_SIZE, OutOfMemory};
@@ -102,7 +101,7 @@ impl Patterns {
         // The classes are those of the trace, as their number says.
         let _ = classes.len();
         let walk = Walk::new(alloc, classes)?;
-        let mut near = Near::new(alloc)?;
+        let mut near = walk.near()?;
         let mut found = Vec::new(alloc);
         for length in MIN_SIZE..size + 1 {
             walk.of_size(&mut near, length, &mut found)?;

@@ -1,13 +1,13 @@
 // The walk for cycles.
 ghost use Rattle.std.specs.Prelude.{ℕ, List, ◌≡◌, ◌<◌, ◌≤◌, ◌+◌, ◌-◌, ◌∷◌, ◌++◌, [], length, slice_get, Some, Contains, IfOk, OnOk, IsErrOf, IsTrue};
 ghost use Rattle.std.specs.Bool.{IsFalse};
-ghost use Rattle.sp_base.specs.declared.limits.TheConstants.{MIN_SIZE, MAX_SIZE, MAX_LOCKS};
+ghost use Rattle.sp_base.specs.declared.limits.TheConstants.{MIN_SIZE, MAX_SIZE};
 ghost use Rattle.trace_laws.specs.Reordering.{Rises};
 ghost use Rattle.trace_laws.specs.Patterns.{AreApart};
 ghost use Rattle.pattern_walk.specs.Cycles.{class_of, IsPath, IsExtension};
-ghost use Rattle.pattern_walk.specs.Orders.{AreHolders, AreBefore};
-ghost use Rattle.pattern_walk.specs.Walks.{IsOnWay, AreInOrder, IsBehind, Extends, FoundBelow, HasMoreCycles};
+ghost use Rattle.pattern_walk.specs.Walks.{IsReady, IsOnWay, AreInOrder, IsBehind, Extends, FoundBelow, HasMoreCycles};
 
+use crate::links::Links;
 use crate::near::Near;
 use crate::order::LockOrder;
 use crate::patterns::{Pattern, WalkFault};
@@ -15,11 +15,12 @@ use lock_graph::Classes;
 use sp_base::{MAX_PATTERNS, OutOfMemory};
 use std::alloc::Global;
 
-/// A walk over classes, from each along those that can follow it.
+/// A walk over classes, from each along those that can follow it. Classes without links are left out.
 #[derive(Drop)]
 pub struct Walk<'a> {
     alloc: Global,
     classes: &'a Classes<'a>,
+    links: Links,
     order: LockOrder,
 }
 
@@ -42,15 +43,23 @@ impl<'a> Walk<'a> {
     /// A walk over classes. The only error is want of memory.
     pub fn new(alloc: Global, classes: &'a Classes<'a>) -> Result<Walk<'a>, OutOfMemory>
         ensures classes { IfOk result (λ walk. walk.classes.now ≡ classes.now) }
-        ensures holders { IfOk result (λ walk. AreHolders classes.now.classes (length classes.now.classes) walk.order.holders.items) }
-        ensures before { IfOk result (λ walk. AreBefore classes.now.classes (length classes.now.classes) walk.order.before.items) }
+        ensures ready { IfOk result (λ walk. IsReady walk) }
     {
-        let order = LockOrder::new(alloc, classes)?;
+        let links = Links::new(alloc, classes)?;
+        let order = LockOrder::new(alloc, classes, &links)?;
         Ok(Walk {
             alloc,
             classes,
+            links,
             order,
         })
+    }
+
+    /// Room for how near each lock is. The only error is want of memory.
+    pub fn near(&self) -> Result<Near, OutOfMemory>
+        ensures { IfOk result (λ near. length near.steps.items ≡ length self.now.order.before.items) }
+    {
+        Near::new(self.alloc, self.order.before.len())
     }
 
     // The last class of a path.
@@ -61,7 +70,7 @@ impl<'a> Walk<'a> {
         path[path.len() - 1]
     }
 
-    // The classes that hold the lock of the last class of a path, in the order of their numbers.
+    // The classes with links that hold the lock of the last class of a path, in the order of their numbers.
     fn candidates(&self, near: &Near, path: &[u32]) -> &[u32]
         requires { IsOnWay self.now near.now path.now }
         ensures order { Rises result.now }
@@ -153,14 +162,13 @@ impl<'a> Walk<'a> {
         start: u32,
         found: &mut Vec<Pattern>,
     ) -> Result<(), WalkFault>
-        requires holders { AreHolders self.now.classes.now.classes (length self.now.classes.now.classes) self.now.order.holders.items }
-        requires before { AreBefore self.now.classes.now.classes (length self.now.classes.now.classes) self.now.order.before.items }
-        requires locks { length near.old.steps.items ≡ MAX_LOCKS }
+        requires ready { IsReady self.now }
+        requires locks { length near.old.steps.items ≡ length self.now.order.before.items }
         requires least { MIN_SIZE ≤ size }
         requires most { size ≤ MAX_SIZE }
         requires start { start < length self.now.classes.now.classes }
         requires found { FoundBelow self.now.classes.now.classes size start found.old.items }
-        ensures locks { length near.new.steps.items ≡ MAX_LOCKS }
+        ensures locks { length near.new.steps.items ≡ length self.now.order.before.items }
         ensures ok { OnOk result (FoundBelow self.now.classes.now.classes size (start + 1) found.new.items) }
         ensures many { IsErrOf result WalkFault.TooManyPatterns → HasMoreCycles self.now.classes.now.classes size }
     {
@@ -178,17 +186,19 @@ impl<'a> Walk<'a> {
         size: u8,
         found: &mut Vec<Pattern>,
     ) -> Result<(), WalkFault>
-        requires holders { AreHolders self.now.classes.now.classes (length self.now.classes.now.classes) self.now.order.holders.items }
-        requires before { AreBefore self.now.classes.now.classes (length self.now.classes.now.classes) self.now.order.before.items }
-        requires locks { length near.old.steps.items ≡ MAX_LOCKS }
+        requires ready { IsReady self.now }
+        requires locks { length near.old.steps.items ≡ length self.now.order.before.items }
         requires least { MIN_SIZE ≤ size }
         requires most { size ≤ MAX_SIZE }
         requires found { FoundBelow self.now.classes.now.classes size 0 found.old.items }
-        ensures locks { length near.new.steps.items ≡ MAX_LOCKS }
+        ensures locks { length near.new.steps.items ≡ length self.now.order.before.items }
         ensures ok { OnOk result (FoundBelow self.now.classes.now.classes (size + 1) 0 found.new.items) }
         ensures many { IsErrOf result WalkFault.TooManyPatterns → HasMoreCycles self.now.classes.now.classes size }
     {
         for start in 0..self.classes.len() {
+            if !self.links.has(start) {
+                continue;
+            }
             self.from(near, size, start, found)?;
         }
         Ok(())

@@ -11,7 +11,6 @@ index_mut-requires c =
     let inside : k < length held = c.loop-lock-test.true in
     let below = c.requires.below (get_or held k 0) (Contains-get_or held k 0 inside) in
     let size = c.loop-lock.invariant.size in
-    let locks = c.requires.locks in
     omega arith
 
 pub loop-lock-preserved : goal.loop-lock-preserved
@@ -24,7 +23,6 @@ loop-lock-preserved c =
     let inside : k < length held = c.loop-lock-test.true in
     let below = c.requires.below lock (Contains-get_or held k 0 inside) in
     let size = c.loop-lock.invariant.size in
-    let locks = c.requires.locks in
     let within : lock < length now = omega arith in
     let at : slice_get now lock ≡ Some w = slice_get-get_or now lock w within ∙ ap Some (sym c.index_mut.ensures.value) in
     adds_more c.args.holders.now.items held c.args.class k lock now w c.push.new.self c.requires.order c.loop-lock.invariant (slice_get-get_or held k 0 inside) at c.in-Ok.ensures.items

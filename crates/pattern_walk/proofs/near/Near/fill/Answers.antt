@@ -12,7 +12,7 @@ lower-requires c = λ l m.
     let classes = c.args.classes.now.classes in
     let start = c.args.start in
     let is : (class_of classes start).held ≡ c.held.result.now = read_of (λ k. k.held) classes start c.held.result.now c.held.ensures in
-    let below = c.len.ensures.locks.held (class_of classes start) l (contains_at classes start (class_of classes start) (class_at classes start c.requires.start)) (subst (λ (xs : List ℕ). Contains xs l) (sym is) m) in
+    let below = c.requires.before.locks.held (class_of classes start) l (contains_at classes start (class_of classes start) (class_at classes start c.requires.start)) (subst (λ (xs : List ℕ). Contains xs l) (sym is) m) in
     let size = c.fill.ensures.len in
     let locks = c.requires.locks in
     omega arith
@@ -37,7 +37,7 @@ loop-step-preserved c =
     let at = c.loop-step in
     let before = c.args.before.now in
     let least : 1 ≤ at.step = omega arith in
-    let few : (n : ℕ) → n < length classes → (class_of classes n).lock < length before = λ n within. (let below = c.len.ensures.locks.lock (class_of classes n) (contains_at classes n (class_of classes n) (class_at classes n within)) in let locks = c.requires.before.locks in omega arith) in
+    let few : (n : ℕ) → n < length classes → (class_of classes n).lock < length before = λ n within. c.requires.before.locks.lock (class_of classes n) (contains_at classes n (class_of classes n) (class_at classes n within)) in
     record {
       locks = c.spread.ensures.lowered.size ∙ at.invariant.locks;
       size = at.invariant.size;

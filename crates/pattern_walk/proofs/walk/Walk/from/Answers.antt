@@ -1,5 +1,8 @@
-use Rattle.std.proofs.Common.{◌∷◌, [], ℕ, List, sym, subst, ◌∙◌, arith}
+use Rattle.std.proofs.Common.{◌∷◌, [], ℕ, List, length, sym, ap, subst, ◌∙◌, arith}
+use Rattle.std.specs.Prelude.{Vec}
+use Rattle.std.specs.declared.alloc.Global.{Global}
 use Rattle.std.proofs.lemmas.Result.{on_ok_weaker}
+use Rattle.lock_graph.specs.Classes.{HaveLocksBelow}
 use Rattle.pattern_walk.specs.Cycles.{BeginsWith}
 use Rattle.pattern_walk.specs.Nearness.{IsNear}
 use Rattle.pattern_walk.specs.Walks.{IsOnWay, Extends}
@@ -16,7 +19,7 @@ extend-requires-clause-way c =
     let least = c.requires.least in
     let most = c.requires.most in
     subst (IsOnWay c.args.self.now known) (sym c.in-Ok.ensures.items)
-    (begins_along c.args.self.now known start c.requires.holders c.requires.start (omega arith) (omega arith) c.fill.ensures.locks (subst (λ (s : ℕ). IsNear classes start s known.steps.items) (sym same) c.fill.ensures.near))
+    (begins_along c.args.self.now known start c.requires.ready c.requires.start (omega arith) (omega arith) (subst (HaveLocksBelow classes) (sym (c.fill.ensures.locks ∙ ap (λ (v : List (Vec ℕ Global)). length v) c.deref.ensures.value)) c.requires.ready.before.locks) (subst (λ (s : ℕ). IsNear classes start s known.steps.items) (sym same) c.fill.ensures.near))
 
 pub extend-requires-clause-behind : goal.extend-requires-clause-behind
 extend-requires-clause-behind c = λ p q m long begins. behind_start c.args.self.now.classes.now.classes c.args.size c.args.start c.args.found.now.items c.requires.found p q m (long ∙ c.fill.ensures.size) (subst (BeginsWith q) c.in-Ok.ensures.items begins)

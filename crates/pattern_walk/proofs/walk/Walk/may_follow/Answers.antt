@@ -3,10 +3,13 @@ use Rattle.std.specs.Prelude.{Contains, IsTrue}
 use Rattle.std.proofs.lemmas.Option.{slice_get-get_or, slice_get_within, get_or_from_slice_get}
 use Rattle.pattern_walk.specs.Cycles.{class_of}
 use Rattle.pattern_walk.proofs.PatternCycles.{class_at}
-use Rattle.pattern_walk.proofs.Ordering.{read_of}
+use Rattle.pattern_walk.proofs.Ordering.{read_of, lock_below}
 use Rattle.pattern_walk.proofs.Walking.{path_pushes, greater_than_first, holds_last, apart_from_each, near_enough}
 use Rattle.pattern_walk.proofs.walk.Walk.may_follow.Goals.{then-next-path-via-then-next-path, then-next-path-via-else-next-path+then-not-allows}
 use Rattle.pattern_walk.proofs.walk.Walk.may_follow.Goals as goal
+
+pub allows-requires : goal.allows-requires
+allows-requires c = lock_below c.args.self.now.classes.now.classes c.args.next c.lock.result (length c.args.near.now.steps.items) c.requires.next c.lock.ensures c.requires.way.locks
 
 pub returns-then-next-path-clause-no : goal.returns-then-next-path-clause-no
 returns-then-next-path-clause-no c = λ is q extension.

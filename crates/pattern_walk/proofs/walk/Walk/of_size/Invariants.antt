@@ -1,10 +1,9 @@
 use Rattle.std.proofs.Common.{◌≡◌, length}
-use Rattle.sp_base.specs.declared.limits.TheConstants.{MAX_LOCKS}
 use Rattle.pattern_walk.specs.Walks.{FoundBelow}
 use Rattle.pattern_walk.proofs.walk.Walk.of_size.Given as goal
 
 abbrev pub invariant-loop-start : goal.invariant-loop-start
 invariant-loop-start l = record {
-  locks : length l.near.steps.items ≡ MAX_LOCKS;
+  locks : length l.near.steps.items ≡ length l.self.order.before.items;
   found : FoundBelow l.self.classes.now.classes l.size l.start l.found.items;
 }
