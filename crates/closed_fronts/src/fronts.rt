@@ -1,6 +1,6 @@
 //! The closures of the places of a trace.
 
-ghost use Rattle.std.specs.Prelude.{ℕ, ◌≡◌, ◌<◌, ◌≤◌, ◌+◌, ◌↔◌, length, IfOk, OnOk, IfSome, IfNone, IsTrue, false, Some, slice_get, slice_index};
+ghost use Rattle.std.specs.Prelude.{ℕ, ◌≡◌, ◌<◌, ◌≤◌, ◌+◌, ◌↔◌, length, IfOk, OnOk, IfSome, IfNone, IsTrue, false, Some, slice_get};
 ghost use Rattle.trace_laws.specs.Trace.{thread_at, Before};
 ghost use Rattle.trace_laws.specs.Traces.{IsTrace};
 ghost use Rattle.trace_laws.specs.Findings.{HasCount};

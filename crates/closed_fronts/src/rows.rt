@@ -15,8 +15,8 @@ struct Share {
     thread: u16,
 }
 
-/// For each place a row, with a cut for each thread, in one region. The own cut of a place is just behind it, and is not
-/// looked up: a row that differs from an earlier one in that alone is stored once with it.
+/// For each place a row, with a cut for each thread. The own cut of a place is just behind it, and is not looked up: so a
+/// row that differs from that of an earlier place of the thread in the own cut alone is not stored again.
 ///
 /// Contracts see the list of the whole rows.
 #[derive(Drop)]

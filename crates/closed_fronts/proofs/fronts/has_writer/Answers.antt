@@ -1,4 +1,4 @@
-use Rattle.std.proofs.Common.{◌≡◌, ◌<◌, ℕ, Some, None, sym, subst, ◌∙◌, arith}
+use Rattle.std.proofs.Common.{◌≡◌, ℕ, Some, None, sym, subst, ◌∙◌, arith}
 use Rattle.closed_fronts.specs.Cuts.{IsHeld}
 use Rattle.closed_fronts.specs.Rows.{row_in}
 use Rattle.closed_fronts.proofs.fronts.has_writer.Goals as goal

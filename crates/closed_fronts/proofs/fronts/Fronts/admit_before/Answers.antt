@@ -1,6 +1,6 @@
-use Rattle.std.proofs.Common.{◌≡◌, ℕ, List, length, sym, ap, subst, arith}
+use Rattle.std.proofs.Common.{sym, subst, arith}
 use Rattle.trace_laws.specs.Traces.{History}
-use Rattle.closed_fronts.specs.Rows.{AreRows, IsSteady}
+use Rattle.closed_fronts.specs.Rows.{IsSteady}
 use Rattle.closed_fronts.proofs.Mends.{cut_within}
 use Rattle.closed_fronts.proofs.fronts.Fronts.admit_before.Goals as goal
 

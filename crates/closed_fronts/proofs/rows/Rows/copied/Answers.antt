@@ -1,5 +1,5 @@
-use Rattle.std.proofs.Common.{◌≡◌, ◌<◌, ◌+◌, ◌-◌, ℕ, List, length, take, drop, sym, ap, subst, ◌∙◌, arith}
-use Rattle.std.specs.Prelude.{slice_index, slice_range, slice_set}
+use Rattle.std.proofs.Common.{◌+◌, ℕ, List, length, sym, ap, ◌∙◌, arith}
+use Rattle.std.specs.Prelude.{slice_range, slice_set}
 use Rattle.closed_fronts.proofs.Sharing.{shared_known, shares_size, part_size}
 use Rattle.closed_fronts.proofs.rows.Rows.copied.Goals as goal
 

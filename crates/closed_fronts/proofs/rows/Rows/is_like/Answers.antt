@@ -1,4 +1,4 @@
-use Rattle.std.proofs.Common.{◌≡◌, ◌≢◌, ◌<◌, ◌+◌, ℕ, List, length, sym, ap, subst, ◌∙◌, arith}
+use Rattle.std.proofs.Common.{◌+◌, ℕ, List, length, sym, ap, ◌∙◌, arith}
 use Rattle.std.specs.Prelude.{slice_index, slice_range, slice_set}
 use Rattle.std.proofs.lemmas.List.{set-set}
 use Rattle.closed_fronts.proofs.Sharing.{shared_known, shares_size, part_size, alike_set}

@@ -1,7 +1,6 @@
-use Rattle.std.proofs.Common.{◌≡◌, ◌<◌, ◌+◌, ◌-◌, ℕ, List, length, take, drop, sym, ap, subst, ◌∙◌, arith}
-use Rattle.std.specs.Prelude.{max, slice_index, slice_range, slice_set}
-use Rattle.closed_fronts.specs.Rows.{IsJoin, row_in}
-use Rattle.closed_fronts.specs.Shares.{shared_row}
+use Rattle.std.proofs.Common.{◌+◌, ℕ, List, length, sym, ap, subst, ◌∙◌, arith}
+use Rattle.std.specs.Prelude.{slice_range, slice_set}
+use Rattle.closed_fronts.specs.Rows.{IsJoin}
 use Rattle.closed_fronts.proofs.Sharing.{shared_known, shares_size, part_size, part_at, join_raised}
 use Rattle.closed_fronts.proofs.rows.Rows.join_into.Goals as goal
 

@@ -1,5 +1,4 @@
-use Rattle.std.proofs.Common.{◌≡◌, ◌<◌, ◌+◌, ◌∷◌, [], ◌++◌, ℕ, List, length, refl, sym, ap, subst, ◌∙◌, arith}
-use Rattle.std.specs.Prelude.{slice_index}
+use Rattle.std.proofs.Common.{◌≡◌, ◌∷◌, [], ◌++◌, ℕ, List, length, refl, sym, ap, subst, ◌∙◌, arith}
 use Rattle.closed_fronts.specs.declared.rows.Share.{Share}
 use Rattle.closed_fronts.specs.Shares.{rows_from, AreShares}
 use Rattle.closed_fronts.proofs.Sharing.{shares_size, shares_kept, stored_share, stored_rows}
