@@ -9,4 +9,5 @@ pub mod Walking
 pub mod Extending
 pub mod Raising
 pub mod Picking
+pub mod Stepping
 pub mod Moving

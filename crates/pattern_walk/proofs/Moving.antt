@@ -17,9 +17,10 @@ use Rattle.lock_graph.specs.Classes.{Graph}
 use Rattle.sp_closure.specs.Members.{PlaceSet, has, IsMemberOf, AreCounts}
 use Rattle.sp_closure.proofs.Counts.{count_under}
 use Rattle.pattern_walk.specs.Cycles.{class_of, classes_of}
-use Rattle.pattern_walk.specs.Instances.{IsListedPattern, ArePicksAt, AreInSet, IsInitial, AreAtMost, IsUnderway, HasNoDeadlock, rest_of}
+use Rattle.pattern_walk.specs.Instances.{IsListedPattern, ArePicksAt, AreInSet, IsInitial, AreAtMost, IsUnderway, HasNoDeadlock, rest_of, reached_of}
 use Rattle.pattern_walk.proofs.Raising.{closure_moves}
 use Rattle.pattern_walk.proofs.Ordering.{read_of}
+use Rattle.pattern_walk.proofs.Stepping.{reached_further}
 use Rattle.pattern_walk.proofs.Picking.{number_at, zip_from, zip_size, in_order, rest_less, class_at_number, acquire_in_trace, other_pick, is_instance, under_deadlock}
 
 -- a pattern of a graph, and picks that are underway
@@ -71,14 +72,18 @@ module _ (graph : Graph) (pattern : List ℕ) (is_of : IsListedPattern graph pat
 
     -- the first acquire that is not in the set
     module _ (m q : ℕ) (at_q : slice_get (class_of graph.classes n).acquires m ≡ Some q) (from : k ≤ m) (passed : AreInSet set (class_of graph.classes n).acquires k m) (inside : set p ≡ true) (outside : set q ≡ false) where
-      -- is later
-      pub is_later : p < q
-      is_later = go (three_way k m)
+      -- has a later position
+      pub further : k < m
+      further = go (three_way k m)
         where
-          go : (k < m) ⊎ ((k ≡ m) ⊎ (m < k)) → p < q
-          go (inl less) = (class_at_number graph pattern is_of i n at_n).order k m p q less stands at_q
+          go : (k < m) ⊎ ((k ≡ m) ⊎ (m < k)) → k < m
+          go (inl less) = less
           go (inr (inl same)) = absurd (let there : slice_get (class_of graph.classes n).acquires m ≡ Some p = subst (λ (j : ℕ). slice_get (class_of graph.classes n).acquires j ≡ Some p) same stands in let own = at_q in let is : p ≡ q = cc in let in_q : set q ≡ true = subst (λ (j : ℕ). set j ≡ true) is inside in let out = outside in cc)
           go (inr (inr more)) = absurd (omega arith)
+
+      -- so it is later
+      pub is_later : p < q
+      is_later = (class_at_number graph pattern is_of i n at_n).order k m p q further stands at_q
 
       -- and a place of the trace
       pub is_within : q < length graph.trace.events
@@ -222,6 +227,10 @@ module _ (graph : Graph) (pattern : List ℕ) (is_of : IsListedPattern graph pat
       -- the picks with it are nearer to the end
       pub nearer_read : rest_of (length graph.trace.events) (slice_set picks i (slice_index acquires m)) < rest_of (length graph.trace.events) picks
       nearer_read = nearer graph pattern is_of positions picks cursor underway i n k (slice_index picks i) at_n at_k at_p m (slice_index acquires m) at_q from passed_class inside outside
+
+      -- and the positions have reached more
+      pub reached_read : reached_of positions < reached_of (slice_set positions i m)
+      reached_read = reached_further positions i k m at_k (further graph pattern is_of positions picks cursor underway i n k (slice_index picks i) at_n at_k at_p m (slice_index acquires m) at_q from passed_class inside outside)
 
       -- and underway with the raised cursor
       pub moves_read : (more : PlaceSet) → more.trace ≡ cursor.trace → IsClosure cursor.trace.events (λ j. IsTrue (has cursor.members j) ⊎ Before cursor.trace.events j (slice_index acquires m)) (has more.members) → IsUnderway graph pattern (slice_set positions i m) (slice_set picks i (slice_index acquires m)) more

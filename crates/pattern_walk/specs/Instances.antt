@@ -7,7 +7,7 @@ use Rattle.trace_laws.specs.Patterns.{Class, IsPattern}
 use Rattle.trace_laws.specs.Findings.{DeadlockBy, IsFoundDeadlock}
 use Rattle.trace_laws.specs.Closed.{IsClosureBefore, by_closure}
 use Rattle.lock_graph.specs.Classes.{Graph}
-use Rattle.sp_closure.specs.Members.{PlaceSet, has}
+use Rattle.sp_closure.specs.Members.{PlaceSet, has, IsAtMostSections}
 use Rattle.pattern_walk.specs.Cycles.{class_of, classes_of}
 use Rattle.pattern_walk.specs.Listed.{AreClassNumbers}
 
@@ -59,3 +59,20 @@ pub record IsUnderway (graph : Graph) (pattern positions picks : List ℕ) (curs
 abbrev pub rest_of : ℕ → List ℕ → ℕ
 rest_of end [] = 0
 rest_of end (p ∷ ps) = (end - p) + rest_of end ps
+
+-- the acquires of classes together
+abbrev pub acquires_of : List Class → ℕ
+acquires_of [] = 0
+acquires_of (c ∷ cs) = length c.acquires + acquires_of cs
+
+-- how many acquires the positions have passed or stand at
+abbrev pub reached_of : List ℕ → ℕ
+reached_of [] = 0
+reached_of (k ∷ ks) = (k + 1) + reached_of ks
+
+-- The steps of a check of a pattern, by the counter before and after: at most the sections that were asked, of which there
+-- are not more than the trace has, and the acquires of the pattern's classes together.
+pub record AreFewSteps (events : List Event) (pattern : List Class) (old new : ℕ) : Type 0 where
+  pub asked : ℕ
+  pub few : IsAtMostSections events asked
+  pub steps : new ≤ old + asked + acquires_of pattern

@@ -4,9 +4,10 @@ ghost use Rattle.trace_laws.specs.Traces.{AreNamedBelow, NamesBelow};
 
 use crate::{Patterns, check};
 use lock_graph::Classes;
-use sp_base::{LockId, ThreadId, VarId};
+use sp_base::{LockId, Steps, ThreadId, VarId};
 use sp_closure::Cursor;
 use std::alloc::Global;
+use std::marker::Brand;
 use std::process::Abort;
 use std::test::Fail;
 use trace_index::Index;
@@ -108,7 +109,8 @@ fn test_pattern(
     let pattern = patterns.get(0);
     assert_eq!(rt; pattern.classes(), classes_wanted);
     let mut cursor = Cursor::new(alloc, &index).expect(rt, "room");
-    let found = check(alloc, pattern, &classes, &mut cursor).expect(rt, "room");
+    let mut steps = Steps::<Brand>::new();
+    let found = check(alloc, pattern, &classes, &mut cursor, &mut steps).expect(rt, "room");
     test_found(rt, &found, wanted);
 }
 

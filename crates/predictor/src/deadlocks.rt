@@ -6,9 +6,10 @@ ghost use Rattle.predictor.specs.Searches.{AreRanked, AreDeadlocks};
 
 use lock_graph::Classes;
 use pattern_walk::{Patterns, check};
-use sp_base::OutOfMemory;
+use sp_base::{OutOfMemory, Steps};
 use sp_closure::Cursor;
 use std::alloc::Global;
+use std::marker::Brand;
 use trace_laws::{Deadlock, Keep};
 
 // The least deadlock of each pattern of a range that has one, in the order of the patterns.
@@ -28,7 +29,9 @@ fn collect_deadlocks(
 {
     let mut found = Vec::new(alloc);
     for n in from..to {
-        let Some((deadlock, keep)) = check(alloc, patterns.get(n), classes, cursor)? else {
+        let mut steps = Steps::<Brand>::new();
+        let Some((deadlock, keep)) = check(alloc, patterns.get(n), classes, cursor, &mut steps)?
+        else {
             continue;
         };
         let Ok(()) = found.push((deadlock, keep)) else {

@@ -1,16 +1,16 @@
-use Rattle.std.proofs.Common.{◌≡◌, ◌<◌, ℕ, List, ◌+◌, [], ◌∷◌, ◌++◌, ◌⊎◌, length, take, get_or, sym, ap, subst, ◌∙◌}
+use Rattle.std.proofs.Common.{◌≡◌, ◌<◌, ℕ, List, ◌+◌, [], ◌∷◌, ◌++◌, ◌⊎◌, length, take, get_or, sym, ap, subst, ◌∙◌, arith}
 use Rattle.std.specs.Prelude.{Contains, IsTrue}
 use Rattle.std.proofs.lemmas.List.{take_more}
 use Rattle.std.proofs.lemmas.List.Elements.{Contains-get_or}
 use Rattle.trace_laws.specs.Trace.{Before}
 use Rattle.trace_laws.specs.Traces.{History}
 use Rattle.trace_laws.specs.Closed.{IsClosure, IsClosureBefore}
-use Rattle.sp_closure.specs.Members.{has}
+use Rattle.sp_closure.specs.Members.{has, IsAtMostSections}
 use Rattle.pattern_walk.proofs.Raising.{closure_push}
 use Rattle.pattern_walk.proofs.instance.Instance.raise_all.Goals as goal
 
 pub raise-requires : goal.raise-requires
-raise-requires c =
+raise-requires g c =
     let items = c.deref-pick-items.result.now in
     let picks = c.args.self.now.picks.items in
     let k = c.loop-pick.pick-index in
@@ -20,7 +20,7 @@ raise-requires c =
     subst (λ (h : History). pick < length h.events) (sym c.loop-pick.invariant.trace) (c.requires pick is_pick)
 
 pub loop-pick-preserved : goal.loop-pick-preserved
-loop-pick-preserved c =
+loop-pick-preserved g c =
     let items = c.deref-pick-items.result.now in
     let picks = c.args.self.now.picks.items in
     let events = c.args.cursor.now.trace.events in
@@ -36,5 +36,7 @@ loop-pick-preserved c =
     let raised : IsClosure events (λ i. IsTrue (has old i) ⊎ Before events i pick) (has new) = subst (λ (h : History). IsClosure h.events (λ i. IsTrue (has old i) ⊎ Before h.events i pick) (has new)) c.loop-pick.invariant.trace c.raise.ensures.closure in
     record {
       trace = c.raise.ensures.trace ∙ c.loop-pick.invariant.trace;
+      few = subst (λ (h : History). IsAtMostSections h.events c.raise.new.self.asked) (c.raise.ensures.trace ∙ c.loop-pick.invariant.trace) c.raise.ensures.few;
+      steps = (let stepped = c.raise.ensures.steps in let was = c.loop-pick.invariant.steps in omega arith);
       closure = subst (λ (xs : List ℕ). IsClosureBefore events xs (has new)) (sym more) (closure_push events (take k picks) pick (has old) (has new) c.loop-pick.invariant.closure raised);
     }
