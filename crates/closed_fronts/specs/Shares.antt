@@ -29,6 +29,6 @@ pub record AreShares (cuts : List ℕ) (shares : List Share) : Type 0 where
   pub few : length shares ≤ MAX_EVENTS
   pub each : AreTold (IsShare cuts) shares
 
--- what rows keep is right
-abbrev pub AreKept : Inside → Type 0
-AreKept x = AreShares x.cuts.items x.shares.items
+-- the shares of rows are right
+abbrev pub HasShares : Inside → Type 0
+HasShares x = AreShares x.cuts.items x.shares.items

@@ -30,11 +30,11 @@ impl Model for Rows {
 
     ghost Value = { List (List ℕ) };
 
-    ghost use Rattle.closed_fronts.specs.Shares.{rows_in, AreKept};
+    ghost use Rattle.closed_fronts.specs.Shares.{rows_in, HasShares};
 
     ghost view = { rows_in };
 
-    ghost invariant = { AreKept };
+    ghost invariant = { HasShares };
 }
 
 impl Rows {
