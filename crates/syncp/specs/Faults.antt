@@ -1,5 +1,5 @@
 -- Faults of the program, and their lines.
-use Rattle.std.specs.Prelude.{◌≡◌, ℕ, List, ◌++◌, codes}
+use Rattle.std.specs.Prelude.{ℕ, List, ◌++◌, codes}
 use Rattle.std.specs.Fmt.{decimal}
 use Rattle.std_text.specs.declared.fault.StdKind.{StdKind}
 use Rattle.std_text.specs.declared.fault.StdKind.TheVariants.{LineTooLong, NoBar, BadName, UnknownOperation, BadOperand, InputTooLong, TooManyEvents, TooManyThreads, TooManyLocks, TooManyVars, LockHeld, Reentrant, NotHeld, ForkLate, ForkTwice, SelfThread, AfterJoin}
