@@ -5,3 +5,4 @@ pub mod Pointers
 pub mod Grouping
 pub mod Adding
 pub mod Enclosing
+pub mod GoingOn

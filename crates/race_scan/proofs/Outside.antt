@@ -32,7 +32,7 @@ no_race trace e l forced race = (race.enabled.leaves.enabled e (contains_head e 
     holds k h = listed_from_contains race.enabled.places k ((race.enabled.leaves.enabled h.pick h.is_pick).ready k h.before)
 
 -- what comes before a place is in each closed set that has the places before a later one of its thread
-thread_before : (trace : List Event) (t a b : ℕ) (other : ℕ → Bool) → a ≤ b → thread_at trace a ≡ Some t → thread_at trace b ≡ Some t → ClosedSet trace other → ((i : ℕ) → Before trace i b → IsTrue (other i)) → (j : ℕ) → Before trace j a → IsTrue (other j)
+pub thread_before : (trace : List Event) (t a b : ℕ) (other : ℕ → Bool) → a ≤ b → thread_at trace a ≡ Some t → thread_at trace b ≡ Some t → ClosedSet trace other → ((i : ℕ) → Before trace i b → IsTrue (other i)) → (j : ℕ) → Before trace j a → IsTrue (other j)
 thread_before trace t a b other le is_a is_b closed holds j before = go (three_way a b)
   where
     go : (a < b) ⊎ ((a ≡ b) ⊎ (b < a)) → IsTrue (other j)

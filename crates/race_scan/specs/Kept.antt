@@ -10,5 +10,5 @@ scan_in s = record { trace = s.index.now; from = s.from; to = s.to; passed = s.p
 
 -- the set is over the trace, and the races are all there are
 pub record IsPrepared (s : Inside) : Type 0 where
-  pub same : s.cursor.trace ≡ s.index.now
+  pub same : s.set.trace ≡ s.index.now
   pub races : AreAllRaces s.index.now.events s.from s.to s.races.items

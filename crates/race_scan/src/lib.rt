@@ -10,6 +10,7 @@ mod candidates;
 mod finding;
 mod groups;
 mod order;
+mod pair_set;
 mod partners;
 mod passing;
 mod scan;

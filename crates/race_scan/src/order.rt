@@ -5,9 +5,8 @@ ghost use Rattle.trace_laws.specs.Findings.{Races, IsKeep, by_reorderings};
 ghost use Rattle.race_scan.specs.Listed.{AreAllRaces, IsFirstListed};
 
 use crate::finding::list_all;
-use crate::partners::raise_pair;
+use crate::pair_set::PairSet;
 use sp_base::{MAX_EVENTS, OutOfMemory};
-use sp_closure::Cursor;
 use std::alloc::{AllocError, Global};
 use trace_index::Index;
 use trace_laws::{Keep, Race, Trace};
@@ -16,15 +15,15 @@ use trace_laws::{Keep, Race, Trace};
 pub fn list_in_order(
     alloc: Global,
     index: &Index<'_>,
-    cursor: &mut Cursor<'_>,
+    set: &mut PairSet<'_>,
     from: u32,
     to: u32,
 ) -> Result<Vec<Race>, AllocError>
-    requires { cursor.old.trace ≡ index.now }
-    ensures trace { cursor.new.trace ≡ index.now }
+    requires { set.old.trace ≡ index.now }
+    ensures trace { set.new.trace ≡ index.now }
     ensures races { IfOk result (λ races. AreAllRaces index.now.events from to races.items) }
 {
-    let mut races = list_all(alloc, index, cursor, from, to)?;
+    let mut races = list_all(alloc, index, set, from, to)?;
     races.sort_by_key(|race| race.later)?;
     Ok(races)
 }
@@ -46,17 +45,17 @@ pub fn first_from(races: &[Race], start: u32) -> Option<Race>
 pub fn keep_of(
     alloc: Global,
     trace: &Trace,
-    cursor: &mut Cursor<'_>,
+    set: &mut PairSet<'_>,
     race: &Race,
 ) -> Result<Keep, OutOfMemory>
-    requires trace { cursor.old.trace ≡ trace.now }
+    requires trace { set.old.trace ≡ trace.now }
     requires race { Races trace.now.events race.now.earlier race.now.later }
-    ensures trace { cursor.new.trace ≡ trace.now }
+    ensures trace { set.new.trace ≡ trace.now }
     ensures few { length trace.now.events ≤ MAX_EVENTS }
     ensures keep { IfOk result (IsKeep trace.now.events trace.now.threads (by_reorderings trace.now.events) (race.now.earlier ∷ race.now.later ∷ [])) }
 {
     // A trace is lawful, as its length says.
     let _ = trace.len();
-    raise_pair(cursor, race.earlier, race.later);
-    Keep::new(alloc, cursor.counts())
+    set.raise(race.earlier, race.later);
+    Keep::new(alloc, set.counts())
 }

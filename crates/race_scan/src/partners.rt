@@ -1,17 +1,13 @@
 // The earliest place that a place races with.
-ghost use Rattle.std.specs.Prelude.{ℕ, ◌≡◌, ◌<◌, ◌≤◌, ◌∷◌, [], IfNone, IfSome, length, slice_index_or};
+ghost use Rattle.std.specs.Prelude.{ℕ, ◌≡◌, ◌<◌, ◌≤◌, IfNone, IfSome, length, slice_index_or};
 ghost use Rattle.trace_laws.specs.Reordering.{Conflict};
-ghost use Rattle.trace_laws.specs.Closed.{IsClosureBefore};
-ghost use Rattle.sp_closure.specs.Members.{has};
 ghost use Rattle.race_scan.specs.Partners.{IsPartner, NoRaceBelow};
 ghost use Rattle.race_scan.specs.Grouped.{AreOfThreads, HasPlace};
 ghost use Rattle.race_scan.specs.Passed.{ArePassed, AreReady, IsHead, IsEarliest};
 
 use crate::groups::Group;
+use crate::pair_set::PairSet;
 use crate::passing::{pass_all, pass_tried};
-use sp_base::Steps;
-use sp_closure::Cursor;
-use std::marker::Brand;
 use trace_index::Index;
 
 // A place of a group.
@@ -56,35 +52,22 @@ fn earliest(groups: &[Group], passed: &[usize], later: u32) -> Option<Head>
     })
 }
 
-/// The set becomes the closure of the places before two places.
-pub fn raise_pair(cursor: &mut Cursor<'_>, first: u32, second: u32)
-    requires first { first < length cursor.old.trace.events }
-    requires second { second < length cursor.old.trace.events }
-    ensures trace { cursor.new.trace ≡ cursor.old.trace }
-    ensures closure { IsClosureBefore cursor.old.trace.events (first ∷ second ∷ []) (has cursor.new.members) }
-{
-    let mut steps = Steps::<Brand>::new();
-    cursor.reset();
-    cursor.raise(first, &mut steps);
-    cursor.raise(second, &mut steps);
-}
-
 // The earliest place that the later place races with, of those that are not passed. The earliest of these is tried; where
 // it does not race, all that the set has of its group is passed.
 fn search(
     index: &Index<'_>,
-    cursor: &mut Cursor<'_>,
+    set: &mut PairSet<'_>,
     groups: &[Group],
     passed: &mut [usize],
     later: u32,
 ) -> Option<u32>
-    requires trace { cursor.old.trace ≡ index.now }
+    requires trace { set.old.trace ≡ index.now }
     requires later { later < length index.now.events }
     requires groups { AreOfThreads index.now.events groups.now }
     requires all { (e : ℕ) → Conflict index.now.events e later → HasPlace groups.now e }
     requires passed { ArePassed index.now.events later groups.now passed.old }
     requires ready { AreReady index.now.events later groups.now passed.old }
-    ensures trace { cursor.new.trace ≡ index.now }
+    ensures trace { set.new.trace ≡ index.now }
     ensures passed { ArePassed index.now.events later groups.now passed.new }
     ensures none { IfNone result (NoRaceBelow index.now.events later later) }
     ensures some { IfSome result (IsPartner index.now.events later) }
@@ -92,13 +75,13 @@ fn search(
     // A trace is lawful, as its length says.
     let _ = index.trace().len();
     while let Some(head) = earliest(groups, passed, later) {
-        raise_pair(cursor, head.place, later);
-        if !cursor.has(head.place) {
+        set.raise(head.place, later);
+        if !set.has(head.place) {
             return Some(head.place);
         }
         let next = pass_tried(
             index,
-            cursor,
+            set,
             &groups[head.group].places,
             later,
             passed[head.group],
@@ -112,21 +95,21 @@ fn search(
 /// the later place, no set is made.
 pub fn partner(
     index: &Index<'_>,
-    cursor: &mut Cursor<'_>,
+    set: &mut PairSet<'_>,
     groups: &[Group],
     passed: &mut [usize],
     later: u32,
 ) -> Option<u32>
-    requires trace { cursor.old.trace ≡ index.now }
+    requires trace { set.old.trace ≡ index.now }
     requires later { later < length index.now.events }
     requires groups { AreOfThreads index.now.events groups.now }
     requires all { (e : ℕ) → Conflict index.now.events e later → HasPlace groups.now e }
     requires passed { ArePassed index.now.events later groups.now passed.old }
-    ensures trace { cursor.new.trace ≡ index.now }
+    ensures trace { set.new.trace ≡ index.now }
     ensures passed { ArePassed index.now.events later groups.now passed.new }
     ensures none { IfNone result (NoRaceBelow index.now.events later later) }
     ensures some { IfSome result (IsPartner index.now.events later) }
 {
     pass_all(index, groups, passed, later);
-    search(index, cursor, groups, passed, later)
+    search(index, set, groups, passed, later)
 }

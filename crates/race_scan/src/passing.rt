@@ -7,8 +7,8 @@ ghost use Rattle.race_scan.specs.Passed.{ArePassed, AreReady, IsOut};
 
 use crate::candidates::do_conflict;
 use crate::groups::Group;
+use crate::pair_set::PairSet;
 use crate::sections::is_enclosed;
-use sp_closure::Cursor;
 use trace_index::Index;
 
 // Whether a place is known to be out without a set: it does not conflict with the later place, or is in each closed set
@@ -51,11 +51,11 @@ fn pass(index: &Index<'_>, places: &[u32], later: u32, start: usize) -> usize
 }
 
 // The first position from one on whose place does not stand before the later place, or is outside the set.
-fn pass_inside(cursor: &Cursor<'_>, places: &[u32], later: u32, start: usize) -> usize
-    requires { (k e : ℕ) → slice_get places.now k ≡ Some e → e < length cursor.now.trace.events }
+fn pass_inside(set: &PairSet<'_>, places: &[u32], later: u32, start: usize) -> usize
+    requires { (k e : ℕ) → slice_get places.now k ≡ Some e → e < length set.now.trace.events }
     ensures from { start ≤ result }
-    ensures passed { (k e : ℕ) → start ≤ k → k < result → slice_get places.now k ≡ Some e → IsTrue (has cursor.now.members e) }
-    ensures outside { (e : ℕ) → slice_get places.now result ≡ Some e → e < later → has cursor.now.members e ≡ false }
+    ensures passed { (k e : ℕ) → start ≤ k → k < result → slice_get places.now k ≡ Some e → IsTrue (has set.now.members e) }
+    ensures outside { (e : ℕ) → slice_get places.now result ≡ Some e → e < later → has set.now.members e ≡ false }
 {
     let mut position = start;
     while position < places.len() {
@@ -63,7 +63,7 @@ fn pass_inside(cursor: &Cursor<'_>, places: &[u32], later: u32, start: usize) ->
         if later <= place {
             return position;
         }
-        if !cursor.has(place) {
+        if !set.has(place) {
             return position;
         }
         position += 1;
@@ -74,19 +74,19 @@ fn pass_inside(cursor: &Cursor<'_>, places: &[u32], later: u32, start: usize) ->
 /// Passes the places that are in the set, and behind them those that are known to be out.
 pub fn pass_tried(
     index: &Index<'_>,
-    cursor: &Cursor<'_>,
+    set: &PairSet<'_>,
     places: &[u32],
     later: u32,
     start: usize,
 ) -> usize
-    requires trace { cursor.now.trace ≡ index.now }
+    requires trace { set.now.trace ≡ index.now }
     requires places { (k e : ℕ) → slice_get places.now k ≡ Some e → e < length index.now.events }
     requires later { later < length index.now.events }
-    ensures from { (e : ℕ) → slice_get places.now start ≡ Some e → e < later → IsTrue (has cursor.now.members e) → start < result }
-    ensures passed { (k e : ℕ) → start ≤ k → k < result → slice_get places.now k ≡ Some e → IsTrue (has cursor.now.members e) ⊎ IsOut index.now.events later e }
+    ensures from { (e : ℕ) → slice_get places.now start ≡ Some e → e < later → IsTrue (has set.now.members e) → start < result }
+    ensures passed { (k e : ℕ) → start ≤ k → k < result → slice_get places.now k ≡ Some e → IsTrue (has set.now.members e) ⊎ IsOut index.now.events later e }
     ensures conflict { (e : ℕ) → slice_get places.now result ≡ Some e → e < later → Conflict index.now.events e later }
 {
-    let inside = pass_inside(cursor, places, later, start);
+    let inside = pass_inside(set, places, later, start);
     pass(index, places, later, inside)
 }
 

@@ -4,8 +4,8 @@ ghost use Rattle.std.specs.Prelude.{◌≡◌, IfOk, OnErr};
 ghost use Rattle.race_scan.specs.Scans.{GivesNext};
 
 use crate::order::{first_from, keep_of, list_in_order};
+use crate::pair_set::PairSet;
 use sp_base::OutOfMemory;
-use sp_closure::Cursor;
 use std::alloc::Global;
 use std::marker::Model;
 use trace_index::Index;
@@ -18,7 +18,7 @@ use trace_laws::{Keep, Race};
 pub struct RaceScan<'a> {
     alloc: Global,
     index: &'a Index<'a>,
-    cursor: Cursor<'a>,
+    set: PairSet<'a>,
     races: Vec<Race>,
     from: u32,
     to: u32,
@@ -47,12 +47,12 @@ impl<'a> RaceScan<'a> {
     ) -> Result<RaceScan<'a>, OutOfMemory>
         ensures { IfOk result (λ scan. scan ≡ record { trace = index.now; from = from; to = to; passed = 0 }) }
     {
-        let mut cursor = Cursor::new(alloc, index)?;
-        let races = list_in_order(alloc, index, &mut cursor, from, to)?;
+        let mut set = PairSet::new(alloc, index)?;
+        let races = list_in_order(alloc, index, &mut set, from, to)?;
         Ok(RaceScan {
             alloc,
             index,
-            cursor,
+            set,
             races,
             from,
             to,
@@ -69,7 +69,7 @@ impl<'a> RaceScan<'a> {
         let Some(race) = first_from(&self.races, self.passed) else {
             return Ok(None);
         };
-        let keep = keep_of(self.alloc, self.index.trace(), &mut self.cursor, &race)?;
+        let keep = keep_of(self.alloc, self.index.trace(), &mut self.set, &race)?;
         self.passed = race.later + 1;
         Ok(Some((race, keep)))
     }

@@ -13,8 +13,8 @@ pub returns-then-not-has-clause-some : goal.returns-then-not-has-clause-some
 returns-then-not-has-clause-some c =
     let events = c.args.index.now.events in
     let head = c.in-Some.head in
-    let set = has c.raise_pair.new.cursor.members in
-    let closure = subst (λ (h : History). IsClosureBefore h.events (head.place ∷ c.args.later ∷ []) set) c.loop-head.invariant.trace c.raise_pair.ensures.closure in
+    let set = has c.raise.new.self.members in
+    let closure = subst (λ (h : History). IsClosureBefore h.events (head.place ∷ c.args.later ∷ []) set) c.loop-head.invariant.trace c.raise.ensures.closure in
     partner_found events (subst (λ (h : History). Lawful h.events) c.trace.ensures.value c.len.ensures.trace.lawful) c.args.later head.group head.place c.args.groups.now c.loop-head.passed set c.requires.groups c.requires.all c.loop-head.invariant.passed c.loop-head.invariant.ready c.in-Some.ensures.some closure (sym c.has.ensures ∙ c.if-not-has.true)
 
 pub pass_tried-next-requires-clause-places : goal.pass_tried-next-requires-clause-places
@@ -32,9 +32,9 @@ loop-head-smaller c =
     let passed = c.loop-head.passed in
     let head = c.in-Some.head in
     let g = slice_index_or groups head.group c.index-groups-head.result in
-    let set = has c.raise_pair.new.cursor.members in
+    let set = has c.raise.new.self.members in
     let size = c.loop-head.invariant.passed.size in
-    let closure = subst (λ (h : History). IsClosureBefore h.events (head.place ∷ c.args.later ∷ []) set) c.loop-head.invariant.trace c.raise_pair.ensures.closure in
+    let closure = subst (λ (h : History). IsClosureBefore h.events (head.place ∷ c.args.later ∷ []) set) c.loop-head.invariant.trace c.raise.ensures.closure in
     let group_at : slice_get groups head.group ≡ Some g = slice_get-get_or groups head.group c.index-groups-head.result c.in-Some.ensures.group in
     let start_at : slice_get passed head.group ≡ Some (slice_index passed head.group) = slice_get-get_or passed head.group 0 (let b = c.in-Some.ensures.group in omega arith) in
     let of = thread_within events c.args.later c.requires.later in
@@ -49,16 +49,16 @@ loop-head-preserved c =
     let passed = c.loop-head.passed in
     let head = c.in-Some.head in
     let g = slice_index_or groups head.group c.index-groups-head.result in
-    let set = has c.raise_pair.new.cursor.members in
+    let set = has c.raise.new.self.members in
     let size = c.loop-head.invariant.passed.size in
-    let closure = subst (λ (h : History). IsClosureBefore h.events (head.place ∷ c.args.later ∷ []) set) c.loop-head.invariant.trace c.raise_pair.ensures.closure in
+    let closure = subst (λ (h : History). IsClosureBefore h.events (head.place ∷ c.args.later ∷ []) set) c.loop-head.invariant.trace c.raise.ensures.closure in
     let group_at : slice_get groups head.group ≡ Some g = slice_get-get_or groups head.group c.index-groups-head.result c.in-Some.ensures.group in
     let start_at : slice_get passed head.group ≡ Some (slice_index passed head.group) = slice_get-get_or passed head.group 0 (let b = c.in-Some.ensures.group in omega arith) in
     let of = thread_within events c.args.later c.requires.later in
     let s = step events c.args.later head.group head.place of.0 (slice_index passed head.group) c.pass_tried-next.result groups passed c.deref.result.now g set c.requires.groups c.loop-head.invariant.passed c.loop-head.invariant.ready c.in-Some.ensures.some.head group_at start_at c.deref.ensures.value
     of.1 closure c.pass_tried-next.ensures.from (sym c.has.ensures ∙ c.if-not-has.false) c.in-Some.ensures.some.before c.pass_tried-next.ensures.passed c.pass_tried-next.ensures.conflict in
     record {
-      trace = c.raise_pair.ensures.trace ∙ c.loop-head.invariant.trace;
+      trace = c.raise.ensures.trace ∙ c.loop-head.invariant.trace;
       passed = s.passed;
       ready = s.ready;
     }

@@ -4,7 +4,7 @@ use Rattle.race_scan.proofs.partners.search.Given as goal
 
 abbrev pub invariant-loop-head : goal.invariant-loop-head
 invariant-loop-head l = record {
-  trace : l.cursor.trace ≡ l.index;
+  trace : l.set.trace ≡ l.index;
   passed : ArePassed l.index.events l.later l.groups l.passed;
   ready : AreReady l.index.events l.later l.groups l.passed;
 }

@@ -6,7 +6,7 @@ use Rattle.race_scan.proofs.passing.pass_inside.Given as goal
 abbrev pub invariant-loop-position : goal.invariant-loop-position
 invariant-loop-position l = record {
   from : l.start ≤ l.position;
-  passed : (k e : ℕ) → l.start ≤ k → k < l.position → slice_get l.places k ≡ Some e → IsTrue (has l.cursor.members e);
+  passed : (k e : ℕ) → l.start ≤ k → k < l.position → slice_get l.places k ≡ Some e → IsTrue (has l.set.members e);
 }
 
 abbrev pub decreases-loop-position : goal.decreases-loop-position
