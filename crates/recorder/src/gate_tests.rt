@@ -1,16 +1,15 @@
 //! Two threads that wait for each other before their calls.
 
 ghost use Rattle.std.specs.Prelude.{◌≡◌, length};
-ghost use Rattle.recorder.specs.Passes.{IsPassOf};
+ghost use Rattle.recorder.specs.Passes.{manager_script, IsPassOf};
 
 use crate::workers::Worker;
 use crate::{Call, Manager, Pass, record};
 use script_machine::{Recording, Script};
-use sp_base::{Gate, OutOfMemory, ThreadId};
+use sp_base::{Gate, MAX_INPUT, ThreadId};
 use std::alloc::Global;
 use std::sync::Wait;
 use std::sync::atomic::{AtomicBool, Ordering};
-use std::test::Fail;
 use std::thread;
 use std::thread::Threads;
 
@@ -72,16 +71,38 @@ impl Gate for Meeting {
 // Two threads that each make one step, of different variables.
 const TWO_WRITES: &[u8] = b"thread T0\nwrite X 1\nthread T1\nwrite Y 1\n";
 
+/// How many events a recording has after which no thread can step.
+pub(crate) fn whole(recording: &Recording) -> Option<u32> {
+    match recording.complete() {
+        true => Some(recording.trace().len()),
+        false => None,
+    }
+}
+
+/// How many events are recorded of the text with the gate, and then no thread can step.
+pub(crate) fn recorded<R: Threads + Wait + Sync, G: Gate + Sync>(
+    rt: &R,
+    alloc: Global,
+    text: &[u8],
+    gate: &G,
+) -> Option<u32> {
+    if text.len() > MAX_INPUT as usize {
+        return None;
+    }
+    let Ok(script) = Script::read(alloc, text) else {
+        return None;
+    };
+    let Ok(recording) = record(rt, alloc, &script, gate) else {
+        return None;
+    };
+    whole(&recording)
+}
+
 #[test]
-fn two_workers_meet_at_the_gate(rt: HostRuntime) -> Result<(), Fail> {
-    let alloc = rt.alloc();
-    let script = Script::read(alloc, TWO_WRITES)?;
+fn two_workers_meet_at_the_gate(rt: HostRuntime) {
     let meeting = Meeting::new();
-    let recording = record(&rt, alloc, &script, &meeting)?;
+    assert_eq!(rt; recorded(&rt, rt.alloc(), TWO_WRITES, &meeting), Some(2));
     assert!(rt; meeting.was_held());
-    assert!(rt; recording.complete());
-    assert_eq!(rt; recording.trace().len(), 2);
-    Ok(())
 }
 
 /// Whether one call of the worker's pass is done, and the pass after it.
@@ -99,19 +120,20 @@ pub(crate) fn call_once<'m, 'a, R: Threads + Wait + Sync, G: Gate>(
     }
 }
 
-// Whether the call of each of the two passes, on a thread of its own, is done, and the recording after both.
-fn both_call_once<'a, R: Threads + Wait + Sync, G: Gate + Sync>(
+/// How many events are recorded after a call of each of the two passes, each on a thread of its own, and then no thread can
+/// step; none where a call is not done.
+pub(crate) fn after_both<'a, R: Threads + Wait + Sync, G: Gate + Sync>(
     rt: &R,
     alloc: Global,
-    script: &'a Script,
+    manager: Manager<'a>,
+    zero: Pass<'a>,
+    one: Pass<'a>,
     gate: &G,
-) -> Result<(bool, bool, Recording<'a>), OutOfMemory>
-    requires { length script.now.bodies ≡ 2 }
+) -> Option<u32>
+    requires two { length (manager_script manager).bodies ≡ 2 }
+    requires zero { IsPassOf manager zero }
+    requires one { IsPassOf manager one }
 {
-    let (manager, mut passes) = Manager::new(alloc, script)?;
-    let (Some(one), Some(zero)) = (passes.pop(), passes.pop()) else {
-        unreachable!()
-    };
     let zero = Worker::new(&manager, zero);
     let one = Worker::new(&manager, one);
     let ((zero_done, zero), (one_done, one)) = thread::join(
@@ -119,23 +141,63 @@ fn both_call_once<'a, R: Threads + Wait + Sync, G: Gate + Sync>(
         move || call_once(rt, zero, gate),
         move || call_once(rt, one, gate),
     );
-    let mut all = Vec::with_capacity(alloc, 2)?;
+    if !zero_done || !one_done {
+        return None;
+    }
+    let Ok(mut all) = Vec::with_capacity(alloc, 2) else {
+        return None;
+    };
     all.push_reserved(zero);
     all.push_reserved(one);
-    let recording = manager.finish(alloc, all)?;
-    Ok((zero_done, one_done, recording))
+    let Ok(recording) = manager.finish(alloc, all) else {
+        return None;
+    };
+    whole(&recording)
+}
+
+// The same for the passes of a new manager for the script.
+fn after_two_passes<'a, R: Threads + Wait + Sync, G: Gate + Sync>(
+    rt: &R,
+    alloc: Global,
+    script: &'a Script,
+    gate: &G,
+) -> Option<u32>
+    requires { length script.now.bodies ≡ 2 }
+{
+    let Ok((manager, mut passes)) = Manager::new(alloc, script) else {
+        return None;
+    };
+    let (Some(one), Some(zero)) = (passes.pop(), passes.pop()) else {
+        return None;
+    };
+    after_both(rt, alloc, manager, zero, one, gate)
+}
+
+// The same for the text, of two threads.
+fn recorded_by_two<R: Threads + Wait + Sync, G: Gate + Sync>(
+    rt: &R,
+    alloc: Global,
+    text: &[u8],
+    gate: &G,
+) -> Option<u32> {
+    if text.len() > MAX_INPUT as usize {
+        return None;
+    }
+    let Ok(script) = Script::read(alloc, text) else {
+        return None;
+    };
+    if script.threads() != 2 {
+        return None;
+    }
+    after_two_passes(rt, alloc, &script, gate)
 }
 
 #[test]
-fn two_passes_meet_at_the_gate(rt: HostRuntime) -> Result<(), Fail> {
-    let alloc = rt.alloc();
-    let script = Script::read(alloc, TWO_WRITES)?;
-    assert_eq!(rt; script.threads(), 2);
+fn two_passes_meet_at_the_gate(rt: HostRuntime) {
     let meeting = Meeting::new();
-    let (zero_done, one_done, recording) = both_call_once(&rt, alloc, &script, &meeting)?;
+    assert_eq!(rt;
+        recorded_by_two(&rt, rt.alloc(), TWO_WRITES, &meeting),
+        Some(2)
+    );
     assert!(rt; meeting.was_held());
-    assert!(rt; zero_done && one_done);
-    assert!(rt; recording.complete());
-    assert_eq!(rt; recording.trace().len(), 2);
-    Ok(())
 }

@@ -1,10 +1,8 @@
 //! What a gate is told of the calls of two threads: each by its number, before it and while the lock is held.
 
-use crate::record;
-use script_machine::Script;
+use crate::gate_tests::recorded;
 use sp_base::{Gate, ThreadId};
 use std::sync::atomic::{AtomicBool, AtomicU32, Ordering};
-use std::test::Fail;
 use std::thread;
 
 /// What a gate was told of one thread.
@@ -62,6 +60,13 @@ impl Observer {
         }
     }
 
+    // Whether each thread made so many calls, and nothing was wrong.
+    fn saw(&self, calls: u32) -> bool {
+        self.zero.calls.load(Ordering::SeqCst) == calls
+            && self.one.calls.load(Ordering::SeqCst) == calls
+            && !self.was_wrong.load(Ordering::SeqCst)
+    }
+
     fn see(&self, is_right: bool) {
         if !is_right {
             self.was_wrong.store(true, Ordering::SeqCst);
@@ -89,14 +94,8 @@ const COUNTING: &[u8] =
     b"thread T0\nrepeat 50\nlock A\nread X\nwrite X 1\nunlock A\nend\nthread T1\nrepeat 50\nlock A\nread X\nwrite X 2\nunlock A\nend\n";
 
 #[test]
-fn a_gate_is_told_of_each_call(rt: HostRuntime) -> Result<(), Fail> {
-    let alloc = rt.alloc();
-    let script = Script::read(alloc, COUNTING)?;
+fn a_gate_is_told_of_each_call(rt: HostRuntime) {
     let observer = Observer::new();
-    let recording = record(&rt, alloc, &script, &observer)?;
-    assert_eq!(rt; recording.trace().len(), 400);
-    assert!(rt; !observer.was_wrong.load(Ordering::SeqCst));
-    assert_eq!(rt; observer.zero.calls.load(Ordering::SeqCst), 201);
-    assert_eq!(rt; observer.one.calls.load(Ordering::SeqCst), 201);
-    Ok(())
+    assert_eq!(rt; recorded(&rt, rt.alloc(), COUNTING, &observer), Some(400));
+    assert!(rt; observer.saw(201));
 }

@@ -3,14 +3,13 @@
 ghost use Rattle.std.specs.Prelude.{◌≡◌, length};
 
 use crate::Manager;
-use crate::gate_tests::call_once;
+use crate::gate_tests::{after_both, call_once};
 use crate::workers::Worker;
-use script_machine::{Recording, Script};
-use sp_base::{Gate, OutOfMemory, ThreadId};
+use script_machine::Script;
+use sp_base::{Gate, MAX_INPUT, ThreadId};
 use std::alloc::Global;
 use std::sync::Wait;
 use std::sync::atomic::{AtomicBool, Ordering};
-use std::test::Fail;
 use std::thread;
 use std::thread::Threads;
 
@@ -60,45 +59,52 @@ impl Gate for Holding {
     fn job(&self, _number: u32) {}
 }
 
-// Whether each call is done: one of thread 0, and then one of each of the two threads, on a thread of its own. And the
-// recording after them.
-fn three_calls<'a, R: Threads + Wait + Sync, G: Gate + Sync>(
+// How many events are recorded after three calls: one of thread 0, and then one of each of the two threads, on a thread of
+// its own. None where a call is not done.
+fn after_three_calls<'a, R: Threads + Wait + Sync, G: Gate + Sync>(
     rt: &R,
     alloc: Global,
     script: &'a Script,
     gate: &G,
-) -> Result<(bool, Recording<'a>), OutOfMemory>
+) -> Option<u32>
     requires { length script.now.bodies ≡ 2 }
 {
-    let (manager, mut passes) = Manager::new(alloc, script)?;
-    let (Some(one), Some(zero)) = (passes.pop(), passes.pop()) else {
-        unreachable!()
+    let Ok((manager, mut passes)) = Manager::new(alloc, script) else {
+        return None;
     };
-    let (first_done, zero) = call_once(rt, Worker::new(&manager, zero), gate);
-    let zero = Worker::new(&manager, zero);
-    let one = Worker::new(&manager, one);
-    let ((zero_done, zero), (one_done, one)) = thread::join(
-        rt,
-        move || call_once(rt, zero, gate),
-        move || call_once(rt, one, gate),
-    );
-    let mut all = Vec::with_capacity(alloc, 2)?;
-    all.push_reserved(zero);
-    all.push_reserved(one);
-    let recording = manager.finish(alloc, all)?;
-    Ok((first_done && zero_done && one_done, recording))
+    let (Some(one), Some(zero)) = (passes.pop(), passes.pop()) else {
+        return None;
+    };
+    let (is_done, zero) = call_once(rt, Worker::new(&manager, zero), gate);
+    if !is_done {
+        return None;
+    }
+    after_both(rt, alloc, manager, zero, one, gate)
+}
+
+// The same for the text, of two threads.
+fn recorded_by_three<R: Threads + Wait + Sync, G: Gate + Sync>(
+    rt: &R,
+    alloc: Global,
+    text: &[u8],
+    gate: &G,
+) -> Option<u32> {
+    if text.len() > MAX_INPUT as usize {
+        return None;
+    }
+    let Ok(script) = Script::read(alloc, text) else {
+        return None;
+    };
+    if script.threads() != 2 {
+        return None;
+    }
+    after_three_calls(rt, alloc, &script, gate)
 }
 
 #[test]
-fn a_refused_call_waits_for_the_holder(rt: HostRuntime) -> Result<(), Fail> {
-    let alloc = rt.alloc();
+fn a_refused_call_waits_for_the_holder(rt: HostRuntime) {
     let text = b"thread T0\nlock A\nunlock A\nthread T1\nlock A\n".as_slice();
-    let script = Script::read(alloc, text)?;
-    assert_eq!(rt; script.threads(), 2);
     let gate = Holding::new();
-    let (all_done, recording) = three_calls(&rt, alloc, &script, &gate)?;
+    assert_eq!(rt; recorded_by_three(&rt, rt.alloc(), text, &gate), Some(3));
     assert!(rt; !gate.gave_up.load(Ordering::SeqCst));
-    assert!(rt; all_done);
-    assert_eq!(rt; recording.trace().len(), 3);
-    Ok(())
 }
