@@ -1,5 +1,5 @@
 // What the reader makes of lines at the edges of the format.
-ghost use Rattle.std.specs.Prelude.{◌≡◌, false, IfOk};
+ghost use Rattle.std.specs.Prelude.{◌≡◌, false, IfSome};
 ghost use Rattle.std_text.specs.Refusal.{IsHolderGiven};
 ghost use Rattle.std_text.specs.Told.{IsHolderKnown};
 ghost use Rattle.std_text.specs.Writing.{IsCallNamed};
@@ -79,6 +79,11 @@ fn refusal(alloc: Global, text: &[u8]) -> (u32, u32) {
         return (0, 0);
     };
     told_by(&fault)
+}
+
+// Whether a text is refused at that line for that kind, and taken where they are zeros.
+fn is_told(alloc: Global, text: &[u8], line: u32, kind: u32) -> bool {
+    refusal(alloc, text) == (line, kind)
 }
 
 #[test]
@@ -173,11 +178,7 @@ fn lines_that_are_refused(rt: HostRuntime) {
             17,
         ),
     ] {
-        assert_eq!(rt;
-            refusal(rt.alloc(), text.as_bytes()),
-            (line, kind),
-            "{case}"
-        );
+        assert!(rt; is_told(rt.alloc(), text.as_bytes(), line, kind), "{case}");
     }
 }
 
@@ -197,9 +198,23 @@ fn padded(
     Ok(text)
 }
 
+// Whether the text of a front, so many bytes and a back is told so.
+fn is_padded_told(
+    alloc: Global,
+    front: &str,
+    byte: u8,
+    count: u32,
+    back: &str,
+    told: (u32, u32),
+) -> bool {
+    match padded(alloc, front, byte, count, back) {
+        Ok(text) => is_told(alloc, &text, told.0, told.1),
+        Err(_) => false,
+    }
+}
+
 #[test]
-fn lengths_at_their_limits(rt: HostRuntime) -> Result<(), Fail> {
-    let alloc = rt.alloc();
+fn lengths_at_their_limits(rt: HostRuntime) {
     for (case, front, byte, count, back, told) in [
         ("a thread of 255 bytes", "", b'T', 255, "|w(X)\n", (0, 0)),
         ("a thread of 256 bytes", "", b'T', 256, "|w(X)\n", (1, 3)),
@@ -241,10 +256,11 @@ fn lengths_at_their_limits(rt: HostRuntime) -> Result<(), Fail> {
         ("4,096 bytes without a bar", "", b'0', 4_096, "", (1, 2)),
         ("a later line", "\nT|w(X)\n", b'0', 4_097, "\n", (3, 1)),
     ] {
-        let text = padded(alloc, front, byte, count, back)?;
-        assert_eq!(rt; refusal(alloc, &text), told, "{case}");
+        assert!(rt;
+            is_padded_told(rt.alloc(), front, byte, count, back, told),
+            "{case}"
+        );
     }
-    Ok(())
 }
 
 // A text of so many lines, each with its number in a name, and a last line.
@@ -266,9 +282,23 @@ fn numbered(
     Ok(text)
 }
 
+// Whether the text of so many numbered lines and a last one is told so.
+fn is_numbered_told(
+    alloc: Global,
+    front: &str,
+    count: u32,
+    back: &str,
+    last: &str,
+    told: (u32, u32),
+) -> bool {
+    match numbered(alloc, front, count, back, last) {
+        Ok(text) => is_told(alloc, &text, told.0, told.1),
+        Err(_) => false,
+    }
+}
+
 #[test]
-fn counts_at_their_limits(rt: HostRuntime) -> Result<(), Fail> {
-    let alloc = rt.alloc();
+fn counts_at_their_limits(rt: HostRuntime) {
     for (case, front, count, back, last, told) in [
         ("64 threads", "T", 64, "|w(X)\n", "T0|w(X)", (0, 0)),
         ("65 threads", "T", 64, "|w(X)\n", "U|w(X)", (65, 8)),
@@ -309,10 +339,11 @@ fn counts_at_their_limits(rt: HostRuntime) -> Result<(), Fail> {
         ),
         ("no event then", "T|w(", 65_536, ")\n", "T|w", (65_537, 5)),
     ] {
-        let text = numbered(alloc, front, count, back, last)?;
-        assert_eq!(rt; refusal(alloc, &text), told, "{case}");
+        assert!(rt;
+            is_numbered_told(rt.alloc(), front, count, back, last, told),
+            "{case}"
+        );
     }
-    Ok(())
 }
 
 // Whether the fault says that the thread of this name holds a lock.
@@ -371,26 +402,48 @@ fn told_at_end(reader: &mut Reader) -> (u32, u32) {
     }
 }
 
-#[test]
-fn a_fault_stays(rt: HostRuntime) -> Result<(), Fail> {
-    let mut reader = Reader::new(rt.alloc())?;
-    let before = told_at(&mut reader, b"T0|w(X)\nT0|rel");
-    let at_the_fault = told_at(&mut reader, b"(L)\nT0|w(X)\n");
-    let later = told_at(&mut reader, b"T0|w\n");
-    let end = told_at_end(&mut reader);
-    assert_eq!(rt; before, (0, 0));
-    assert_eq!(rt; [at_the_fault, later, end], [(2, 13), (2, 13), (2, 13)]);
-    Ok(())
+// Whether a piece is answered with that line and kind, and taken where they are zeros.
+fn is_told_at(reader: &mut Reader, piece: &[u8], line: u32, kind: u32) -> bool
+    requires { reader.old.closed ≡ false }
+    ensures { reader.new.closed ≡ false }
+{
+    told_at(reader, piece) == (line, kind)
+}
+
+// Whether a reader takes the first piece, answers the second with that line and kind, and the third and the end too.
+fn stays(alloc: Global, pieces: [&[u8]; 3], line: u32, kind: u32) -> bool {
+    let Ok(mut reader) = Reader::new(alloc) else {
+        return false;
+    };
+    let is_taken = is_told_at(&mut reader, pieces[0], 0, 0);
+    let is_refused = is_told_at(&mut reader, pieces[1], line, kind);
+    let is_the_same = is_told_at(&mut reader, pieces[2], line, kind);
+    is_taken && is_refused && is_the_same && told_at_end(&mut reader) == (line, kind)
 }
 
 #[test]
-fn a_long_line_is_known_before_its_end(rt: HostRuntime) -> Result<(), Fail> {
-    let mut reader = Reader::new(rt.alloc())?;
+fn a_fault_stays(rt: HostRuntime) {
+    let pieces = [
+        b"T0|w(X)\nT0|rel".as_slice(),
+        b"(L)\nT0|w(X)\n".as_slice(),
+        b"T0|w\n".as_slice(),
+    ];
+    assert!(rt; stays(rt.alloc(), pieces, 2, 13));
+}
+
+// Whether a reader takes a piece, and answers the next with that line and kind.
+fn is_told_behind(alloc: Global, piece: &[u8], next: &[u8], line: u32, kind: u32) -> bool {
+    let Ok(mut reader) = Reader::new(alloc) else {
+        return false;
+    };
+    let is_taken = is_told_at(&mut reader, piece, 0, 0);
+    is_taken && is_told_at(&mut reader, next, line, kind)
+}
+
+#[test]
+fn a_long_line_is_known_before_its_end(rt: HostRuntime) {
     let line = [b'0'; 4_096];
-    let before = told_at(&mut reader, &line);
-    let known = told_at(&mut reader, b"0");
-    assert_eq!(rt; [before, known], [(0, 0), (1, 1)]);
-    Ok(())
+    assert!(rt; is_told_behind(rt.alloc(), &line, b"0", 1, 1));
 }
 
 // Takes a piece so many times.
@@ -403,69 +456,121 @@ fn feed_often(reader: &mut Reader, piece: &[u8], count: u32)
     }
 }
 
-#[test]
-fn an_input_at_its_limit(rt: HostRuntime) -> Result<(), Fail> {
-    let mut reader = Reader::new(rt.alloc())?;
-    feed_often(&mut reader, &[b'\n'; 4_096], 4_095);
-    let before = told_at(&mut reader, &[b'T'; 4_096]);
-    // This byte makes the input and its line too long.
-    let known = told_at(&mut reader, b"T");
-    assert_eq!(rt; [before, known], [(0, 0), (16_773_121, 6)]);
-    Ok(())
+// Whether a reader takes the lines so many times and then a piece, and answers the next with that line and kind.
+fn is_told_behind_lines(
+    alloc: Global,
+    lines: &[u8],
+    count: u32,
+    piece: &[u8],
+    next: &[u8],
+    told: (u32, u32),
+) -> bool {
+    let Ok(mut reader) = Reader::new(alloc) else {
+        return false;
+    };
+    feed_often(&mut reader, lines, count);
+    let is_taken = is_told_at(&mut reader, piece, 0, 0);
+    is_taken && is_told_at(&mut reader, next, told.0, told.1)
 }
 
 #[test]
-fn skipped_lines_name_nothing(rt: HostRuntime) -> Result<(), Fail> {
+fn an_input_at_its_limit(rt: HostRuntime) {
+    let lines = [b'\n'; 4_096];
+    let piece = [b'T'; 4_096];
+    // The last byte makes the input and its line too long.
+    let told = (16_773_121, 6);
+    assert!(rt; is_told_behind_lines(rt.alloc(), &lines, 4_095, &piece, b"T", told));
+}
+
+// Whether the trace of a text and its names have so many threads, and it has so many events, locks and variables.
+fn has_sizes(alloc: Global, text: &[u8], threads: u16, events: u32, locks: u32, vars: u32) -> bool {
+    let Ok((trace, names)) = read(alloc, text) else {
+        return false;
+    };
+    if trace.threads() != threads || names.threads() != threads {
+        return false;
+    }
+    trace.len() == events && names.locks() == locks && names.vars() == vars
+}
+
+#[test]
+fn skipped_lines_name_nothing(rt: HostRuntime) {
     let text = b"T1|begin(m)|3\nT0|fork(T2)|4\nT3|end\nT2|w(X)|5\n";
-    let (trace, names) = read(rt.alloc(), text)?;
-    assert_eq!(rt; [trace.threads(), names.threads()], [2, 2]);
-    assert_eq!(rt; [trace.len(), names.locks(), names.vars()], [2, 0, 1]);
-    Ok(())
+    assert!(rt; has_sizes(rt.alloc(), text, 2, 2, 0, 1));
+}
+
+// The names of a thread T, a lock L and a variable X.
+fn three_names(alloc: Global) -> Option<Names> {
+    let mut names = Names::new(alloc).ok()?;
+    names.thread(b"T").ok()?;
+    names.lock(b"L").ok()?;
+    names.var(b"X").ok()?;
+    Some(names)
 }
 
 // A reader behind six lines that name a thread T, a lock L and a variable X.
-fn behind_others(alloc: Global) -> Result<Reader, Fail>
-    ensures { IfOk result (λ r. r.closed ≡ false) }
+fn behind_others(alloc: Global) -> Option<Reader>
+    ensures { IfSome result (λ r. r.closed ≡ false) }
 {
-    let mut names = Names::new(alloc)?;
-    names.thread(b"T")?;
-    names.lock(b"L")?;
-    names.var(b"X")?;
-    Ok(Reader::after(alloc, names, 7)?)
+    let Some(names) = three_names(alloc) else {
+        return None;
+    };
+    let Ok(reader) = Reader::after(alloc, names, 7) else {
+        return None;
+    };
+    Some(reader)
 }
 
-// The number of the thread of the first event, and the counts of threads, locks and variables.
-fn counts(trace: &Trace, names: &Names) -> (Option<u16>, u16, u32, u32) {
-    let first = match trace.is_empty() {
+// The number of the thread of the first event.
+fn first_thread(trace: &Trace) -> Option<u16> {
+    match trace.is_empty() {
         true => None,
         false => Some(trace.event(0).thread.value()),
+    }
+}
+
+// Whether there are so many threads, locks and variables.
+fn are_counted(names: &Names, threads: u16, locks: u32, vars: u32) -> bool {
+    names.threads() == threads && names.locks() == locks && names.vars() == vars
+}
+
+// Whether a text behind others begins with the thread of that number, and there are then so many threads, locks and
+// variables.
+fn goes_on(alloc: Global, text: &[u8], first: u16, threads: u16, locks: u32, vars: u32) -> bool {
+    let Some(reader) = behind_others(alloc) else {
+        return false;
     };
-    (first, names.threads(), names.locks(), names.vars())
+    let Ok((trace, names)) = read_by(reader, text) else {
+        return false;
+    };
+    first_thread(&trace) == Some(first) && are_counted(&names, threads, locks, vars)
 }
 
 #[test]
-fn names_and_lines_go_on(rt: HostRuntime) -> Result<(), Fail> {
-    let alloc = rt.alloc();
-    for (case, text, told) in [
-        ("the names alone", "T|acq(L)\nT|w(X)\n", (Some(0), 1, 1, 1)),
-        (
-            "a new thread first",
-            "U|acq(L)\nT|w(X)\n",
-            (Some(1), 2, 1, 1),
-        ),
-        (
-            "a new lock and variable",
-            "T|acq(M)\nT|w(Y)\n",
-            (Some(0), 1, 2, 2),
-        ),
+fn names_go_on(rt: HostRuntime) {
+    for (case, text, first, threads, locks, vars) in [
+        ("the names alone", "T|acq(L)\nT|w(X)\n", 0, 1, 1, 1),
+        ("a new thread first", "U|acq(L)\nT|w(X)\n", 1, 2, 1, 1),
+        ("a new lock and variable", "T|acq(M)\nT|w(Y)\n", 0, 1, 2, 2),
     ] {
-        let (trace, names) = read_by(behind_others(alloc)?, text.as_bytes())?;
-        assert_eq!(rt; counts(&trace, &names), told, "{case}");
+        assert!(rt;
+            goes_on(rt.alloc(), text.as_bytes(), first, threads, locks, vars),
+            "{case}"
+        );
     }
-    let mut reader = behind_others(alloc)?;
-    let told = told_at(&mut reader, b"T|acq(L)\nT|w(X\n");
-    assert_eq!(rt; told, (8, 5));
-    Ok(())
+}
+
+// The line and the kind of the fault for which a piece behind others is refused, or zeros.
+fn told_behind_others(alloc: Global, piece: &[u8]) -> (u32, u32) {
+    match behind_others(alloc) {
+        Some(mut reader) => told_at(&mut reader, piece),
+        None => (0, 0),
+    }
+}
+
+#[test]
+fn lines_go_on(rt: HostRuntime) {
+    assert!(rt; told_behind_others(rt.alloc(), b"T|acq(L)\nT|w(X\n") == (8, 5));
 }
 
 // The texts of a call, of the line of its event, and of its operation, one behind the other.
@@ -480,24 +585,41 @@ fn written(alloc: Global, thread: ThreadId, op: Op, names: &Names) -> Result<Vec
     Ok(text)
 }
 
-#[test]
-fn calls_and_lines_are_written(rt: HostRuntime) -> Result<(), Fail> {
-    let mut names = Names::new(rt.alloc())?;
+// The texts of an acquire of a lock L by a thread T.
+fn written_acquire(alloc: Global) -> Result<Vec<u8>, Fail> {
+    let mut names = Names::new(alloc)?;
     let thread = names.thread(b"T")?;
     let lock = names.lock(b"L")?;
-    let text = written(rt.alloc(), thread, Op::Acquire(lock), &names)?;
-    assert_eq!(rt; text.as_slice(), b"T|acq(L)T|acq(L)|7\nacq(L)".as_slice());
-    Ok(())
+    Ok(written(alloc, thread, Op::Acquire(lock), &names)?)
 }
 
 #[test]
-fn the_trace_and_the_names(rt: HostRuntime) -> Result<(), Fail> {
-    let text = b"T0|acq(L)|1\nT1|w(X)|2\nT0|rel(L)|3\nT1|acq(M)|4";
-    let (trace, names) = read(rt.alloc(), text)?;
+fn calls_and_lines_are_written(rt: HostRuntime) -> Result<(), Fail> {
+    let text = written_acquire(rt.alloc())?;
+    assert!(rt; text.as_slice() == b"T|acq(L)T|acq(L)|7\nacq(L)".as_slice());
+    Ok(())
+}
+
+// Two threads with two locks and a variable.
+const TWO_THREADS: &[u8] = b"T0|acq(L)|1\nT1|w(X)|2\nT0|rel(L)|3\nT1|acq(M)|4";
+
+#[test]
+fn the_trace_and_the_names(rt: HostRuntime) {
+    assert!(rt; has_sizes(rt.alloc(), TWO_THREADS, 2, 4, 2, 1));
+}
+
+// Whether there is a trace of the text, of which the laws can be asked.
+fn has_laws(alloc: Global, text: &[u8]) -> bool {
+    let Ok((trace, _names)) = read(alloc, text) else {
+        return false;
+    };
     computed_laws_are_the_laws(&trace);
+    true
+}
+
+#[test]
+fn laws_of_the_reader(rt: HostRuntime) {
     pieces_are_the_text();
     written_text_is_read();
-    assert_eq!(rt; [trace.len(), names.locks(), names.vars()], [4, 2, 1]);
-    assert_eq!(rt; [trace.threads(), names.threads()], [2, 2]);
-    Ok(())
+    assert!(rt; has_laws(rt.alloc(), TWO_THREADS));
 }
