@@ -87,22 +87,54 @@ fn many(
     Ok(text)
 }
 
-// Whether the text has this first fault; not where memory ran out.
-fn made_has_fault(
+// Whether the front, the middle that many times and the back have this first fault.
+fn many_has_fault(
     rt: &HostRuntime,
-    text: Result<Vec<u8>, AllocError>,
+    front: &[u8],
+    middle: &[u8],
+    count: u32,
     line: u32,
     kind: ScriptKind,
 ) -> bool {
-    match text {
+    match many(rt.alloc(), front, middle, count, b"", 0) {
         Ok(text) => has_fault(rt, text.as_slice(), line, kind),
         Err(_) => false,
     }
 }
 
-// Whether the text is a script of that size; not where memory ran out.
-fn made_is_of_size(rt: &HostRuntime, text: Result<Vec<u8>, AllocError>, size: u32) -> bool {
-    match text {
+// Whether the front, the middle and the back, each that many times, are a script without instructions.
+fn many_is_empty(rt: &HostRuntime, front: &[u8], middle: &[u8], count: u32, back: &[u8]) -> bool {
+    match many(rt.alloc(), front, middle, count, back, count) {
+        Ok(text) => is_of_size(rt, text.as_slice(), 0),
+        Err(_) => false,
+    }
+}
+
+// Whether the front, so many numbered lines of the word and the back have too many names at that line.
+fn has_too_many_names(
+    rt: &HostRuntime,
+    front: &str,
+    word: &str,
+    count: u32,
+    back: &str,
+    line: u32,
+) -> bool {
+    match numbered_lines(rt.alloc(), front, word, count, back) {
+        Ok(text) => has_fault(rt, text.as_slice(), line, ScriptKind::TooManyNames),
+        Err(_) => false,
+    }
+}
+
+// Whether the front, so many numbered lines of the word and the back are a script of that size.
+fn numbered_is_of_size(
+    rt: &HostRuntime,
+    front: &str,
+    word: &str,
+    count: u32,
+    back: &str,
+    size: u32,
+) -> bool {
+    match numbered_lines(rt.alloc(), front, word, count, back) {
         Ok(text) => is_of_size(rt, text.as_slice(), size),
         Err(_) => false,
     }
@@ -140,182 +172,191 @@ fn has_names(rt: &HostRuntime, text: &[u8], number: u32, lock: &[u8], variable: 
 
 #[test]
 fn faults_of_words(rt: HostRuntime) {
-    assert!(rt; has_fault(&rt, b"thread A\nlok x\n", 2, ScriptKind::UnknownWord));
-    assert!(rt; has_fault(&rt, b"Lock x\n", 1, ScriptKind::UnknownWord));
-    assert!(rt; has_fault(&rt, b"thread\n", 1, ScriptKind::Operand));
-    assert!(rt; has_fault(&rt, b"thread A B\n", 1, ScriptKind::Operand));
-    assert!(rt; has_fault(&rt, b"thread A\nlock a(b\n", 2, ScriptKind::Operand));
-    assert!(rt; has_fault(&rt, b"thread A\nend 1\n", 2, ScriptKind::Operand));
-    assert!(rt; has_fault(&rt, b"thread A\nwrite x|y z\n", 2, ScriptKind::Operand));
-    assert!(rt; has_fault(&rt, b"thread A\nwrite x 1 2\n", 2, ScriptKind::Operand));
-    assert!(rt; has_fault(&rt, b"thread A\nwrite x y\n", 2, ScriptKind::Number));
-    assert!(rt;
-        has_fault(
-            &rt,
-            b"thread A\nadd 18446744073709551616\n",
+    for (text, line, kind) in [
+        ("thread A\nlok x\n", 2, ScriptKind::UnknownWord),
+        ("Lock x\n", 1, ScriptKind::UnknownWord),
+        ("thread\n", 1, ScriptKind::Operand),
+        ("thread A B\n", 1, ScriptKind::Operand),
+        ("thread A\nlock a(b\n", 2, ScriptKind::Operand),
+        ("thread A\nend 1\n", 2, ScriptKind::Operand),
+        ("thread A\nwrite x|y z\n", 2, ScriptKind::Operand),
+        ("thread A\nwrite x 1 2\n", 2, ScriptKind::Operand),
+        ("thread A\nwrite x y\n", 2, ScriptKind::Number),
+        (
+            "thread A\nadd 18446744073709551616\n",
             2,
-            ScriptKind::Number
-        )
-    );
-    assert!(rt; is_of_size(&rt, b"thread A\nadd 018446744073709551615\n", 1));
-    assert!(rt; has_fault(&rt, b"repeat 65537\n", 1, ScriptKind::Number));
-    assert!(rt; has_fault(&rt, b"thread A\nif -1\n", 2, ScriptKind::Number));
+            ScriptKind::Number,
+        ),
+        ("repeat 65537\n", 1, ScriptKind::Number),
+        ("thread A\nif -1\n", 2, ScriptKind::Number),
+    ] {
+        assert!(rt; has_fault(&rt, text.as_bytes(), line, kind), "{text}");
+    }
 }
 
 #[test]
 fn faults_of_places(rt: HostRuntime) {
-    assert!(rt; has_fault(&rt, b"# none yet\n\nlock a\nlok\n", 3, ScriptKind::NoThread));
-    assert!(rt; has_fault(&rt, b"end\n", 1, ScriptKind::NoThread));
-    assert!(rt;
-        has_fault(
-            &rt,
-            b"thread A\nthread B\nthread A\n",
-            3,
-            ScriptKind::TwiceNamed
-        )
-    );
-    assert!(rt;
-        has_fault(
-            &rt,
-            b"thread A\nif 1\nlock l\nthread B\n",
+    for (text, line, kind) in [
+        ("# none yet\n\nlock a\nlok\n", 3, ScriptKind::NoThread),
+        ("end\n", 1, ScriptKind::NoThread),
+        ("thread A\nthread B\nthread A\n", 3, ScriptKind::TwiceNamed),
+        (
+            "thread A\nif 1\nlock l\nthread B\n",
             2,
-            ScriptKind::OpenBlock
-        )
-    );
-    assert!(rt;
-        has_fault(
-            &rt,
-            b"thread A\nrepeat 2\nif 1\nelse\nthread A\n",
+            ScriptKind::OpenBlock,
+        ),
+        (
+            "thread A\nrepeat 2\nif 1\nelse\nthread A\n",
             3,
-            ScriptKind::OpenBlock
-        )
-    );
-    assert!(rt; has_fault(&rt, b"thread A\nend\n", 2, ScriptKind::StrayEnd));
-    assert!(rt; has_fault(&rt, b"thread A\nelse\n", 2, ScriptKind::StrayEnd));
-    assert!(rt; has_fault(&rt, b"thread A\nrepeat 1\nelse\n", 3, ScriptKind::StrayEnd));
+            ScriptKind::OpenBlock,
+        ),
+        ("thread A\nend\n", 2, ScriptKind::StrayEnd),
+        ("thread A\nelse\n", 2, ScriptKind::StrayEnd),
+        ("thread A\nrepeat 1\nelse\n", 3, ScriptKind::StrayEnd),
+        ("thread A\nif 1\nelse\nelse\n", 4, ScriptKind::StrayEnd),
+    ] {
+        assert!(rt; has_fault(&rt, text.as_bytes(), line, kind), "{text}");
+    }
+}
+
+#[test]
+fn blocks_within_blocks(rt: HostRuntime) {
     assert!(rt;
-        has_fault(
+        many_has_fault(
             &rt,
-            b"thread A\nif 1\nelse\nelse\n",
-            4,
-            ScriptKind::StrayEnd
+            b"thread A\n",
+            b"repeat 65536\n",
+            65,
+            66,
+            ScriptKind::TooDeep
         )
     );
-    let deep = many(rt.alloc(), b"thread A\n", b"repeat 65536\n", 65, b"", 0);
-    assert!(rt; made_has_fault(&rt, deep, 66, ScriptKind::TooDeep));
-    let full = many(
-        rt.alloc(),
-        b"thread A\n",
-        b"repeat 65536\n",
-        64,
-        b"end\n",
-        64,
-    );
-    assert!(rt; made_is_of_size(&rt, full, 0));
+    assert!(rt; many_is_empty(&rt, b"thread A\n", b"repeat 65536\n", 64, b"end\n"));
 }
 
 #[test]
 fn faults_of_the_end(rt: HostRuntime) {
-    assert!(rt;
-        has_fault(
-            &rt,
-            b"thread A\njoin B\nif 1\nelse\n",
+    for (text, line, kind) in [
+        ("thread A\njoin B\nif 1\nelse\n", 3, ScriptKind::OpenBlock),
+        (
+            "thread A\nrepeat 0\nfork B\nend\njoin B\n",
             3,
-            ScriptKind::OpenBlock
-        )
-    );
-    assert!(rt;
-        has_fault(
-            &rt,
-            b"thread A\nrepeat 0\nfork B\nend\njoin B\n",
-            3,
-            ScriptKind::UnknownThread
-        )
-    );
-    assert!(rt;
-        has_fault(
-            &rt,
-            b"thread A\nrepeat 65536\nread x\nread x\nend\njoin B\n",
+            ScriptKind::UnknownThread,
+        ),
+        (
+            "thread A\nrepeat 65536\nread x\nread x\nend\njoin B\n",
             6,
-            ScriptKind::UnknownThread
-        )
-    );
-    assert!(rt;
-        has_fault(
-            &rt,
-            b"thread A\nlock l\nthread B\nrepeat 65536\nread x\nend\n",
+            ScriptKind::UnknownThread,
+        ),
+        (
+            "thread A\nlock l\nthread B\nrepeat 65536\nread x\nend\n",
             3,
-            ScriptKind::TooManyInstructions
-        )
-    );
-    assert!(rt;
-        has_fault(
-            &rt,
-            b"thread A\nfork B\nfork B\nrepeat 65535\nadd 1\nend\nthread B\n",
+            ScriptKind::TooManyInstructions,
+        ),
+        (
+            "thread A\nfork B\nfork B\nrepeat 65535\nadd 1\nend\nthread B\n",
             1,
-            ScriptKind::TooManyInstructions
-        )
-    );
-    assert!(rt;
-        has_fault(
-            &rt,
-            b"thread A\nfork B\nrepeat 0\nfork B\nend\nrepeat 2\nfork B\nend\nthread B\n",
+            ScriptKind::TooManyInstructions,
+        ),
+        (
+            "thread A\nfork B\nrepeat 0\nfork B\nend\nrepeat 2\nfork B\nend\nthread B\n",
             7,
-            ScriptKind::ForkedTwice
-        )
-    );
-    assert!(rt;
-        has_fault(
-            &rt,
-            b"thread A\nif 1\nfork B\nelse\nfork B\nend\nthread B\n",
+            ScriptKind::ForkedTwice,
+        ),
+        (
+            "thread A\nif 1\nfork B\nelse\nfork B\nend\nthread B\n",
             5,
-            ScriptKind::ForkedTwice
-        )
-    );
-    assert!(rt;
-        has_fault(
-            &rt,
-            b"thread A\nfork B\nthread B\nfork C\nthread C\nfork B\n",
+            ScriptKind::ForkedTwice,
+        ),
+        (
+            "thread A\nfork B\nthread B\nfork C\nthread C\nfork B\n",
             6,
-            ScriptKind::ForkedTwice
-        )
-    );
-}
-
-#[test]
-fn limits_on_names(rt: HostRuntime) {
-    let threads = numbered_lines(rt.alloc(), "", "thread ", 64, "");
-    assert!(rt; made_is_of_size(&rt, threads, 0));
-    let more = numbered_lines(rt.alloc(), "", "thread ", 65, "");
-    assert!(rt; made_has_fault(&rt, more, 65, ScriptKind::TooManyNames));
-    let locks = numbered_lines(rt.alloc(), "thread A\n", "lock ", 4096, "lock 0\n");
-    assert!(rt; made_is_of_size(&rt, locks, 4097));
-    let more = numbered_lines(rt.alloc(), "thread A\n", "unlock ", 4096, "lock a\n");
-    assert!(rt; made_has_fault(&rt, more, 4098, ScriptKind::TooManyNames));
-    let variables = numbered_lines(rt.alloc(), "thread A\n", "read ", 65536, "");
-    assert!(rt; made_is_of_size(&rt, variables, 65536));
-    let more = numbered_lines(rt.alloc(), "thread A\n", "read ", 65536, "write a\n");
-    assert!(rt; made_has_fault(&rt, more, 65538, ScriptKind::TooManyNames));
-    let long = many(rt.alloc(), b"thread ", b"x", 255, b"", 0);
-    assert!(rt; made_is_of_size(&rt, long, 0));
-    let longer = many(rt.alloc(), b"thread ", b"x", 256, b"", 0);
-    assert!(rt; made_has_fault(&rt, longer, 1, ScriptKind::Operand));
-}
-
-#[test]
-fn white_space_and_bytes(rt: HostRuntime) {
-    assert!(rt; is_of_size(&rt, b"", 0));
-    assert!(rt; is_of_size(&rt, b"thread A\r\n\r\nlock l\r\nunlock l\r\n", 2));
-    assert!(rt; is_of_size(&rt, b" \tthread \t A  \n\tlock\tl \n \t\nunlock  l", 2));
-    assert!(rt; is_of_size(&rt, b"# a | comment\nthread A\n  #lock\nlock #l\n", 1));
-    match counted(&rt, b"thread \xff\xfe\nlock \x80\nlock l\nunlock l\r\r\n") {
-        Some(found) => {
-            assert_eq!(rt; found.threads, 1);
-            assert_eq!(rt; found.locks, 3);
-            assert_eq!(rt; found.variables, 0);
-        }
-        None => assert!(rt; false),
+            ScriptKind::ForkedTwice,
+        ),
+        (
+            "thread A\nrepeat 65536\nrepeat 65536\nread X\nend\nend\n",
+            1,
+            ScriptKind::TooManyInstructions,
+        ),
+    ] {
+        assert!(rt; has_fault(&rt, text.as_bytes(), line, kind), "{text}");
     }
+}
+
+#[test]
+fn names_within_their_limits(rt: HostRuntime) {
+    for (front, word, count, back, size) in [
+        ("", "thread ", 64, "", 0),
+        ("thread A\n", "lock ", 4096, "lock 0\n", 4097),
+        ("thread A\n", "read ", 65536, "", 65536),
+    ] {
+        assert!(rt;
+            numbered_is_of_size(&rt, front, word, count, back, size),
+            "{word}"
+        );
+    }
+}
+
+#[test]
+fn names_beyond_their_limits(rt: HostRuntime) {
+    for (front, word, count, back, line) in [
+        ("", "thread ", 65, "", 65),
+        ("thread A\n", "unlock ", 4096, "lock a\n", 4098),
+        ("thread A\n", "read ", 65536, "write a\n", 65538),
+    ] {
+        assert!(rt;
+            has_too_many_names(&rt, front, word, count, back, line),
+            "{word}"
+        );
+    }
+}
+
+#[test]
+fn lengths_of_names(rt: HostRuntime) {
+    assert!(rt; many_is_empty(&rt, b"thread ", b"x", 255, b""));
+    assert!(rt; many_has_fault(&rt, b"thread ", b"x", 256, 1, ScriptKind::Operand));
+}
+
+#[test]
+fn white_space_and_sizes(rt: HostRuntime) {
+    for (text, size) in [
+        ("", 0),
+        ("thread A\r\n\r\nlock l\r\nunlock l\r\n", 2),
+        (" \tthread \t A  \n\tlock\tl \n \t\nunlock  l", 2),
+        ("# a | comment\nthread A\n  #lock\nlock #l\n", 1),
+        ("thread A\nadd 018446744073709551615\n", 1),
+        (
+            "thread A\nrepeat 65536\nrepeat 65536\nend\nend\nlock l\n",
+            1,
+        ),
+        (
+            "thread A\nrepeat 0\nrepeat 65536\nrepeat 65536\nread X\nend\nend\nend\n",
+            0,
+        ),
+        ("thread A\nrepeat 65536\nread X\nend\n", 65536),
+        (
+            "thread A\nrepeat 3\nif 1\nread X\nelse\nadd 1\nend\nend\n",
+            12,
+        ),
+    ] {
+        assert!(rt; is_of_size(&rt, text.as_bytes(), size), "{text}");
+    }
+}
+
+// Whether the text is a script with so many threads, locks and variables.
+fn has_counts(rt: &HostRuntime, text: &[u8], threads: u16, locks: u32, variables: u32) -> bool {
+    match counted(rt, text) {
+        Some(found) => {
+            found.threads == threads && found.locks == locks && found.variables == variables
+        }
+        None => false,
+    }
+}
+
+#[test]
+fn names_of_other_bytes(rt: HostRuntime) {
+    let text = b"thread \xff\xfe\nlock \x80\nlock l\nunlock l\r\r\n";
+    assert!(rt; has_counts(&rt, text, 1, 3, 0));
 }
 
 #[test]
@@ -325,38 +366,4 @@ fn names_are_numbered_by_the_text(rt: HostRuntime) {
     assert!(rt; has_names(&rt, text, 1, b"a", b"x"));
     assert!(rt; !has_names(&rt, text, 2, b"a", b"x"));
     assert!(rt; is_of_size(&rt, text, 4));
-}
-
-#[test]
-fn sizes_are_added_up_first(rt: HostRuntime) {
-    assert!(rt;
-        is_of_size(
-            &rt,
-            b"thread A\nrepeat 65536\nrepeat 65536\nend\nend\nlock l\n",
-            1
-        )
-    );
-    assert!(rt;
-        is_of_size(
-            &rt,
-            b"thread A\nrepeat 0\nrepeat 65536\nrepeat 65536\nread X\nend\nend\nend\n",
-            0
-        )
-    );
-    assert!(rt;
-        has_fault(
-            &rt,
-            b"thread A\nrepeat 65536\nrepeat 65536\nread X\nend\nend\n",
-            1,
-            ScriptKind::TooManyInstructions
-        )
-    );
-    assert!(rt; is_of_size(&rt, b"thread A\nrepeat 65536\nread X\nend\n", 65536));
-    assert!(rt;
-        is_of_size(
-            &rt,
-            b"thread A\nrepeat 3\nif 1\nread X\nelse\nadd 1\nend\nend\n",
-            12
-        )
-    );
 }
