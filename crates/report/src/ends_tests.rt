@@ -9,7 +9,6 @@ use crate::write_ends;
 use script_machine::{Machine, Script};
 use sp_base::{SureSink, ThreadId};
 use std::alloc::Global;
-use std::test::Fail;
 use trace_laws::{Names, Op};
 
 // Whether what the operation is on has a name.
@@ -74,25 +73,36 @@ fn ends_of(alloc: Global, machine: &Machine<'_>, names: &Names) -> Option<SureSi
     Some(sink)
 }
 
-// Whether these are the lines after the threads made the steps.
-fn ends_with(alloc: Global, script: &[u8], steps: &[u16], lines: &[u8]) -> Option<bool>
-    requires { length script.now < 2 ^ 32 }
-{
-    let script = Script::read(alloc, script).ok()?;
-    let mut machine = Machine::new(alloc, &script).ok()?;
+// The lines of the threads of a script after they made the steps.
+fn ends_after(alloc: Global, script: &Script, steps: &[u16]) -> Option<SureSink> {
+    let mut machine = Machine::new(alloc, script).ok()?;
     step_all(&mut machine, steps)?;
-    let ends = ends_of(alloc, &machine, script.names())?;
-    Some(ends.text() == lines)
+    ends_of(alloc, &machine, script.names())
+}
+
+// Whether these are the lines after the threads made the steps.
+fn ends_with(alloc: Global, text: &[u8], steps: &[u16], lines: &[u8]) -> bool
+    requires { length text.now < 2 ^ 32 }
+{
+    let Ok(script) = Script::read(alloc, text) else {
+        return false;
+    };
+    match ends_after(alloc, &script, steps) {
+        Some(ends) => ends.text() == lines,
+        None => false,
+    }
 }
 
 #[test]
-fn each_thread_has_a_line(rt: HostRuntime) -> Result<(), Fail> {
-    let alloc = rt.alloc();
+fn each_thread_has_a_line(rt: HostRuntime) {
     let script =
         b"thread T0\nlock A\nlock B\nthread T1\nlock B\nlock A\nthread T2\nwrite X 1\nthread T3\nlock A\nfork T4\nthread T4\nread X\n".as_slice();
     let lines =
         b"blocked T0 at acq(B)\nblocked T1 at acq(A)\nend T2\nblocked T3 at acq(A)\nwaiting T4\n".as_slice();
-    assert_eq!(rt; ends_with(alloc, script, &[0, 1, 2], lines), Some(true));
-    assert_eq!(rt; ends_with(alloc, b"# none\n", &[], b""), Some(true));
-    Ok(())
+    assert!(rt; ends_with(rt.alloc(), script, &[0, 1, 2], lines));
+}
+
+#[test]
+fn no_thread_has_no_line(rt: HostRuntime) {
+    assert!(rt; ends_with(rt.alloc(), b"# none\n", &[], b""));
 }
