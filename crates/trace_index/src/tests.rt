@@ -7,7 +7,6 @@ use crate::Index;
 use sp_base::{LockId, ThreadId, VarId};
 use std::alloc::Global;
 use std::process::Abort;
-use std::test::Fail;
 use trace_laws::{Builder, Event, Op, Trace};
 
 // Adds an event of one of two threads.
@@ -37,47 +36,66 @@ fn two_sections(rt: &impl Abort, alloc: Global) -> Trace {
     builder.finish(2)
 }
 
-// Tests the number of a place within its thread.
-fn test_local(rt: &impl Abort, index: &Index<'_>, place: u32, wanted: u32) {
-    assert!(rt; place < index.trace().len());
-    assert_eq!(rt; index.local(place), wanted, "at {place}");
+// Whether the place has that number within its thread.
+fn has_local(index: &Index<'_>, place: u32, wanted: u32) -> bool {
+    place < index.trace().len() && index.local(place) == wanted
 }
 
-// Tests the writer of a read.
-fn test_writer(rt: &impl Abort, index: &Index<'_>, place: u32, wanted: Option<u32>) {
-    assert!(rt; place < index.trace().len());
+// Whether the place is a read, with that writer.
+fn has_writer(index: &Index<'_>, place: u32, wanted: Option<u32>) -> bool {
+    if place >= index.trace().len() {
+        return false;
+    }
     match &index.trace().event(place).op {
-        Op::Read(_) => assert_eq!(rt; index.writer(place), wanted, "at {place}"),
-        _ => panic!(rt; "no read at {place}"),
+        Op::Read(_) => index.writer(place) == wanted,
+        _ => false,
     }
 }
 
-// Tests the release of an acquire.
-fn test_release(rt: &impl Abort, index: &Index<'_>, place: u32, wanted: Option<u32>) {
-    assert!(rt; place < index.trace().len());
-    match &index.trace().event(place).op {
-        Op::Acquire(_) => assert_eq!(rt; index.release(place), wanted, "at {place}"),
-        _ => panic!(rt; "no acquire at {place}"),
+// Whether the place is an acquire, with that release.
+fn has_release(index: &Index<'_>, place: u32, wanted: Option<u32>) -> bool {
+    if place >= index.trace().len() {
+        return false;
     }
+    match &index.trace().event(place).op {
+        Op::Acquire(_) => index.release(place) == wanted,
+        _ => false,
+    }
+}
+
+// Whether the variable of that number has these accesses.
+fn has_accesses(index: &Index<'_>, number: u32, wanted: &[u32]) -> bool {
+    match VarId::new(number) {
+        Some(variable) => index.accesses(variable) == wanted,
+        None => false,
+    }
+}
+
+// Whether the index of the two sections ties their places.
+fn ties_places(index: &Index<'_>) -> bool {
+    has_local(index, 2, 0)
+        && has_local(index, 3, 2)
+        && has_writer(index, 2, Some(1))
+        && has_release(index, 0, Some(3))
+        && has_release(index, 4, None)
 }
 
 #[test]
-fn an_index_ties_places(rt: HostRuntime) -> Result<(), Fail> {
+fn an_index_ties_places(rt: HostRuntime) {
     let trace = two_sections(&rt, rt.alloc());
     let index = Index::build(rt.alloc(), &trace).expect(&rt, "room");
-    test_local(&rt, &index, 2, 0);
-    test_local(&rt, &index, 3, 2);
-    test_writer(&rt, &index, 2, Some(1));
-    test_release(&rt, &index, 0, Some(3));
-    test_release(&rt, &index, 4, None);
-    let used = VarId::new(0).expect(&rt, "a variable");
-    assert_eq!(rt; index.accesses(used), [1, 2, 5].as_slice());
-    let unused = VarId::new(7).expect(&rt, "a variable");
-    assert!(rt; index.accesses(unused).is_empty());
-    Ok(())
+    assert!(rt; ties_places(&index));
 }
 
-// Tests whether places are acquires.
+#[test]
+fn an_index_lists_accesses(rt: HostRuntime) {
+    let trace = two_sections(&rt, rt.alloc());
+    let index = Index::build(rt.alloc(), &trace).expect(&rt, "room");
+    assert!(rt; has_accesses(&index, 0, [1, 2, 5].as_slice()));
+    assert!(rt; has_accesses(&index, 7, [].as_slice()));
+}
+
+// Whether the place is an acquire.
 fn is_acquire(index: &Index<'_>, place: u32) -> bool
     ensures { IsTrue result → IsAcquire index.now.events place }
 {
@@ -87,25 +105,61 @@ fn is_acquire(index: &Index<'_>, place: u32) -> bool
     matches!(&index.trace().event(place).op, Op::Acquire(_))
 }
 
-// Tests what is held before two acquires: whether the first has the lock, and whether their sets are equal, and apart.
-fn test_held(
-    rt: &impl Abort,
-    index: &Index<'_>,
-    a: u32,
-    b: u32,
-    lock: LockId,
-    wanted: (bool, bool, bool),
-) {
-    assert!(rt; is_acquire(index, a));
-    assert!(rt; is_acquire(index, b));
-    assert_eq!(rt; index.holds(a, lock), wanted.0, "at {a}");
-    assert_eq!(rt; index.same_held(a, b), wanted.1, "at {a} and {b}");
-    assert_eq!(rt; index.apart(a, b), wanted.2, "at {a} and {b}");
-    assert_eq!(rt;
-        index.first_alike(a) == index.first_alike(b),
-        wanted.1,
-        "at {a} and {b}"
-    );
+// Whether the lock is held before the acquire at the place.
+fn held_before(index: &Index<'_>, place: u32, lock: LockId) -> Option<bool> {
+    if !is_acquire(index, place) {
+        return None;
+    }
+    Some(index.holds(place, lock))
+}
+
+// Whether the same is held before two acquires.
+fn same_before(index: &Index<'_>, a: u32, b: u32) -> Option<bool> {
+    if !is_acquire(index, a) {
+        return None;
+    }
+    if !is_acquire(index, b) {
+        return None;
+    }
+    Some(index.same_held(a, b))
+}
+
+// Whether the first acquires before which the same is held are one, for two acquires.
+fn alike_before(index: &Index<'_>, a: u32, b: u32) -> Option<bool> {
+    if !is_acquire(index, a) {
+        return None;
+    }
+    if !is_acquire(index, b) {
+        return None;
+    }
+    Some(index.first_alike(a) == index.first_alike(b))
+}
+
+// Whether nothing common is held before two acquires.
+fn apart_before(index: &Index<'_>, a: u32, b: u32) -> Option<bool> {
+    if !is_acquire(index, a) {
+        return None;
+    }
+    if !is_acquire(index, b) {
+        return None;
+    }
+    Some(index.apart(a, b))
+}
+
+// Whether the first of two acquires has the lock or not, and their sets are equal or not, and apart or not, as is wanted.
+fn are_held(index: &Index<'_>, a: u32, b: u32, lock: u32, wanted: (bool, bool, bool)) -> bool {
+    let Some(lock) = LockId::new(lock) else {
+        return false;
+    };
+    held_before(index, a, lock) == Some(wanted.0)
+        && same_before(index, a, b) == Some(wanted.1)
+        && alike_before(index, a, b) == Some(wanted.1)
+        && apart_before(index, a, b) == Some(wanted.2)
+}
+
+// Whether these are the numbers of the locks that are held before the acquire at the place.
+fn has_held(index: &Index<'_>, place: u32, wanted: &[u32]) -> bool {
+    is_acquire(index, place) && index.held(place) == wanted
 }
 
 // The first thread takes a lock within a lock within a lock.
@@ -138,19 +192,25 @@ fn nested_sections(rt: &impl Abort, alloc: Global) -> Trace {
 }
 
 #[test]
-fn an_index_knows_held_sets(rt: HostRuntime) -> Result<(), Fail> {
+fn an_index_knows_held_sets(rt: HostRuntime) {
     let trace = nested_sections(&rt, rt.alloc());
     let index = Index::build(rt.alloc(), &trace).expect(&rt, "room");
-    let a = LockId::new(9).expect(&rt, "a lock");
-    let b = LockId::new(4).expect(&rt, "a lock");
-    test_held(&rt, &index, 2, 8, a, (true, true, false));
-    test_held(&rt, &index, 2, 13, b, (true, false, false));
-    test_held(&rt, &index, 1, 13, b, (false, false, true));
-    test_held(&rt, &index, 7, 13, b, (true, true, false));
-    test_held(&rt, &index, 0, 12, a, (false, true, true));
-    assert!(rt; is_acquire(&index, 8));
-    assert_eq!(rt; index.held(8), [4, 9].as_slice());
-    Ok(())
+    for (a, b, lock, wanted) in [
+        (2, 8, 9, (true, true, false)),
+        (2, 13, 4, (true, false, false)),
+        (1, 13, 4, (false, false, true)),
+        (7, 13, 4, (true, true, false)),
+        (0, 12, 9, (false, true, true)),
+    ] {
+        assert!(rt; are_held(&index, a, b, lock, wanted), "at {a} and {b}");
+    }
+}
+
+#[test]
+fn an_index_lists_held_locks(rt: HostRuntime) {
+    let trace = nested_sections(&rt, rt.alloc());
+    let index = Index::build(rt.alloc(), &trace).expect(&rt, "room");
+    assert!(rt; has_held(&index, 8, [4, 9].as_slice()));
 }
 
 // The first thread takes a lock within a lock, or the other way round, and gives both back.
