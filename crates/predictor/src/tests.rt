@@ -1,18 +1,16 @@
 // A search of small traces, by several numbers of workers.
 ghost use Rattle.std.specs.Prelude.{◌<◌, ◌≤◌};
-ghost use Rattle.sp_base.specs.declared.limits.TheConstants.{MAX_WORKERS};
 ghost use Rattle.trace_laws.specs.Traces.{AreNamedBelow, NamesBelow};
 
-use crate::{FindFault, find};
-use sp_base::{Gate, LockId, MAX_SIZE, OpenGate, ThreadId, VarId};
+use crate::find;
+use sp_base::{Gate, LockId, MAX_SIZE, MAX_WORKERS, OpenGate, ThreadId, VarId};
 use std::alloc::Global;
 use std::marker::Sync;
 use std::process::Abort;
 use std::sync::atomic::{AtomicBool, AtomicU32, Ordering};
-use std::test::Fail;
 use std::thread;
 use std::thread::Threads;
-use trace_laws::{Builder, Event, Finding, Op, Race, Trace};
+use trace_laws::{Builder, Event, Finding, Findings, Op, Race, Trace};
 
 // Adds an event of one of two threads.
 fn add(rt: &impl Abort, builder: &mut Builder, thread: ThreadId, op: Op)
@@ -92,42 +90,59 @@ fn is_deadlock(finding: &Finding, picks: [u32; 2]) -> bool {
     }
 }
 
-// Whether the search of a crossed trace by so many workers finds the race of each variable, in the order of the later places,
-// and then the deadlock.
-fn finds_all<R: Threads + Sync + Abort>(
-    rt: &R,
-    alloc: Global,
-    vars: u32,
-    workers: u8,
-) -> Result<bool, FindFault>
-    requires vars { vars ≤ 100 }
-    requires least_workers { 1 ≤ workers }
-    requires greatest_workers { workers ≤ MAX_WORKERS }
-{
-    let trace = crossed(rt, alloc, vars);
-    let found = find(rt, alloc, &trace, MAX_SIZE, workers, &OpenGate)?;
+// Whether these are the races of so many variables, in the order of the later places, and then the deadlock.
+fn are_all(found: &Findings, vars: u32) -> bool {
+    if vars > 100 {
+        return false;
+    }
     if found.len() != vars + 1 {
-        return Ok(false);
+        return false;
     }
     for n in 0..vars {
         if !is_race(found.get(n), vars + n, vars - 1 - n) {
-            return Ok(false);
+            return false;
         }
     }
-    Ok(is_deadlock(found.get(vars), [2 * vars + 1, 2 * vars + 5]))
+    is_deadlock(found.get(vars), [2 * vars + 1, 2 * vars + 5])
+}
+
+// Whether the search of a crossed trace by so many workers finds the race of each variable, in the order of the later places,
+// and then the deadlock.
+fn finds_all<R: Threads + Sync + Abort>(rt: &R, alloc: Global, vars: u32, workers: u8) -> bool {
+    if workers < 1 {
+        return false;
+    }
+    if workers > MAX_WORKERS {
+        return false;
+    }
+    let trace = crossed(rt, alloc, vars);
+    match find(rt, alloc, &trace, MAX_SIZE, workers, &OpenGate) {
+        Ok(found) => are_all(&found, vars),
+        Err(_) => false,
+    }
 }
 
 #[test]
-fn the_same_for_each_number_of_workers(rt: HostRuntime) -> Result<(), Fail> {
-    let alloc = rt.alloc();
-    assert!(rt; finds_all(&rt, alloc, 0, 2)?);
-    assert!(rt; finds_all(&rt, alloc, 1, 2)?);
-    assert!(rt; finds_all(&rt, alloc, 3, 1)?);
-    assert!(rt; finds_all(&rt, alloc, 3, 2)?);
-    assert!(rt; finds_all(&rt, alloc, 3, 64)?);
-    assert!(rt; finds_all(&rt, alloc, 70, 1)?);
-    assert!(rt; finds_all(&rt, alloc, 70, 64)?);
-    Ok(())
+fn the_same_for_each_number_of_workers(rt: HostRuntime) {
+    for (vars, workers) in [(0, 2), (1, 2), (3, 1), (3, 2), (3, 64), (70, 1), (70, 64)] {
+        assert!(rt;
+            finds_all(&rt, rt.alloc(), vars, workers),
+            "{vars} by {workers}"
+        );
+    }
+}
+
+// How many findings two workers find in the trace, with the gate.
+fn count_found<R: Threads + Sync, G: Gate + Sync>(
+    rt: &R,
+    alloc: Global,
+    trace: &Trace,
+    gate: &G,
+) -> Option<u32> {
+    match find(rt, alloc, trace, MAX_SIZE, 2, gate) {
+        Ok(found) => Some(found.len()),
+        Err(_) => None,
+    }
 }
 
 /// How many turns a job waits for another.
@@ -139,6 +154,23 @@ struct Meeting {
     first_began: AtomicBool,
     other_began: AtomicBool,
     missed: AtomicBool,
+}
+
+impl Meeting {
+    fn new() -> Meeting {
+        Meeting {
+            first_began: AtomicBool::new(false),
+            other_began: AtomicBool::new(false),
+            missed: AtomicBool::new(false),
+        }
+    }
+
+    // Whether both jobs began, and none missed the other.
+    fn was_held(&self) -> bool {
+        self.first_began.load(Ordering::SeqCst)
+            && self.other_began.load(Ordering::SeqCst)
+            && !self.missed.load(Ordering::SeqCst)
+    }
 }
 
 impl Gate for Meeting {
@@ -164,18 +196,11 @@ impl Gate for Meeting {
 }
 
 #[test]
-fn two_jobs_meet(rt: HostRuntime) -> Result<(), Fail> {
+fn two_jobs_meet(rt: HostRuntime) {
     let trace = two_writes(&rt, rt.alloc());
-    let gate = Meeting {
-        first_began: AtomicBool::new(false),
-        other_began: AtomicBool::new(false),
-        missed: AtomicBool::new(false),
-    };
-    let found = find(&rt, rt.alloc(), &trace, MAX_SIZE, 2, &gate)?;
-    assert_eq!(rt; found.len(), 2);
-    assert!(rt; gate.first_began.load(Ordering::SeqCst) && gate.other_began.load(Ordering::SeqCst));
-    assert!(rt; !gate.missed.load(Ordering::SeqCst));
-    Ok(())
+    let gate = Meeting::new();
+    assert!(rt; count_found(&rt, rt.alloc(), &trace, &gate) == Some(2));
+    assert!(rt; gate.was_held());
 }
 
 // Two threads that take so many pairs of locks crosswise.
@@ -208,6 +233,21 @@ struct Counting {
     greatest: AtomicU32,
 }
 
+impl Counting {
+    fn new() -> Counting {
+        Counting {
+            jobs: AtomicU32::new(0),
+            greatest: AtomicU32::new(0),
+        }
+    }
+
+    // Whether there were several jobs, at most so many, and each number was below their count.
+    fn is_within(&self, most: u32) -> bool {
+        let jobs = self.jobs.load(Ordering::SeqCst);
+        jobs > 1 && jobs <= most && self.greatest.load(Ordering::SeqCst) < jobs
+    }
+}
+
 impl Gate for Counting {
     fn before(&self, _thread: ThreadId, _call: u32) {}
 
@@ -220,16 +260,9 @@ impl Gate for Counting {
 }
 
 #[test]
-fn at_most_sixty_four_jobs(rt: HostRuntime) -> Result<(), Fail> {
+fn at_most_sixty_four_jobs(rt: HostRuntime) {
     let trace = seventy_pairs(&rt, rt.alloc());
-    let gate = Counting {
-        jobs: AtomicU32::new(0),
-        greatest: AtomicU32::new(0),
-    };
-    let found = find(&rt, rt.alloc(), &trace, MAX_SIZE, 2, &gate)?;
-    assert_eq!(rt; found.len(), 70);
-    let jobs = gate.jobs.load(Ordering::SeqCst);
-    assert!(rt; jobs > 1 && jobs <= 64);
-    assert!(rt; gate.greatest.load(Ordering::SeqCst) < jobs);
-    Ok(())
+    let gate = Counting::new();
+    assert!(rt; count_found(&rt, rt.alloc(), &trace, &gate) == Some(70));
+    assert!(rt; gate.is_within(64));
 }
