@@ -22,13 +22,13 @@ const SCRIPT: &str = "thread a\nwrite y 1\nwrite x 2\nthread b\nwrite x 3\n";
 const TRACE: &str = "a|w(y)|2\na|w(x)|3\nb|w(x)|5\n";
 
 // The report of that run.
-const REPORT: &str = "race 2 with 1 at 5 3 keep 1 0\nraces 1 deadlocks 0\n";
+const REPORT_TEXT: &str = "race 2 with 1 at 5 3 keep 1 0\nraces 1 deadlocks 0\n";
 
 // The replays of what is found in it.
 const REPLAYS: &str = "replay 1 b|w(x) a|w(x)\nreached 1\n";
 
 // All that is written of it.
-const WHOLE: &str =
+const WHOLE_TEXT: &str =
     "a|w(y)|2\na|w(x)|3\nb|w(x)|5\n%%\nrace 2 with 1 at 5 3 keep 1 0\nraces 1 deadlocks 0\nreplay 1 b|w(x) a|w(x)\nreached 1\nend a\nend b\n";
 
 // The trace of a text, and its names.
@@ -129,7 +129,7 @@ fn is_text(text: Option<Vec<u8>>, wanted: &str) -> bool {
 
 #[test]
 fn report_of_a_trace(rt: HostRuntime) -> Result<(), Fail> {
-    assert!(rt; is_text(report(&rt, rt.alloc()), REPORT));
+    assert!(rt; is_text(report(&rt, rt.alloc()), REPORT_TEXT));
     Ok(())
 }
 
@@ -160,6 +160,6 @@ fn replays_of_a_recording(rt: HostRuntime) -> Result<(), Fail> {
 
 #[test]
 fn whole_text_of_a_recording(rt: HostRuntime) -> Result<(), Fail> {
-    assert!(rt; is_text(whole(&rt, rt.alloc()), WHOLE));
+    assert!(rt; is_text(whole(&rt, rt.alloc()), WHOLE_TEXT));
     Ok(())
 }
