@@ -18,8 +18,8 @@ struct Pair {
     second: u32,
 }
 
-/// The least closed set of places of a trace that has all places before two places. Where the last pair stands before the
-/// next one in the same threads, the set grows; otherwise it is made anew.
+/// The least closed set of places of a trace that has all places before two places. Where each of the last two places is one
+/// of the next two, or stands before it in its thread, the set grows; otherwise it is made anew.
 ///
 /// Contracts see the trace and the set.
 #[derive(Drop)]
@@ -61,7 +61,7 @@ fn is_up_to_either(index: &Index<'_>, place: u32, first: u32, second: u32) -> bo
 }
 
 impl<'a> PairSet<'a> {
-    /// The empty set of places of the trace of an index. The only error is want of memory.
+    /// A set of places of the trace of an index, before its first two places. The only error is want of memory.
     pub fn new(alloc: Global, index: &'a Index<'a>) -> Result<PairSet<'a>, OutOfMemory>
         ensures { IfOk result (λ set. set.trace ≡ index.now) }
     {
